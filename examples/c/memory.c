@@ -1,7 +1,7 @@
 /*
  * Prints how many bytes of heap the ends take, and ends with status 1 where an endpoint takes more than docs/C.md says,
- * where an open message that has ended leaves more than its room, for the next one, and its place in a list, or where
- * some are left at the end. Its allocator has the size of each block in front of it. It copies a block that grows, so for
+ * where an open message that has ended leaves more than a message's room and the lists of four, for the next ones, or
+ * where some are left at the end. Its allocator has the size of each block in front of it. It copies a block that grows, so for
  * a moment both count.
  */
 #include "needleoat.h"
@@ -11,8 +11,8 @@
 #include <string.h>
 
 enum { FRONT = 16, MANY_SOURCES = 4, MANY_COMMANDS = 5 };
-/* the room of a message, and the list of the order in which messages began: 4 keys of 3 bytes */
-enum { ROOM = 328, ORDER = 12 };
+/* the room of a message, and that of the lists of four: of each a key of 3 bytes, a number of 2 and an entry of 16 */
+enum { ROOM = 328, LISTS = 4 * (3 + 2 + 16) };
 
 static size_t in_use, most;
 
@@ -167,7 +167,7 @@ static bool print_steps(void) {
     printf("heap of an endpoint with an open message too %zu\n", in_use);
     if (receive_packet(14, 0, two_packets, sizeof two_packets, 1).kind != NEEDLEOAT_STEP_DROPPED) return false;
     printf("heap of an endpoint after that message %zu\n", in_use);
-    if (in_use != before + ROOM + ORDER) return false;
+    if (in_use != before + ROOM + LISTS) return false;
     needleoat_endpoint_free(&endpoint);
     return true;
 }

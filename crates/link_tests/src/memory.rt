@@ -1,6 +1,7 @@
 //! Schedules are read and run with little memory at first, and with more after each refusal.
 
 use crate::runs::{RETRY, TAG_USED_AGAIN, example, expect_run};
+use bumpalo::Bump;
 use mctp_schedule::{LineFaultKind, RunFault, Schedule, run};
 use memory_hoard::Hoard;
 use std::alloc::{AllocError, Global};
@@ -73,7 +74,8 @@ fn fault_of_run(
 ) -> Result<Option<RunFault>, Fail> {
     let setup = example(alloc)?;
     let hoard = Hoard::take(alloc, bytes)?;
-    let fault = run(alloc, setup, schedule).err();
+    let arena = Bump::new(alloc);
+    let fault = run(alloc, &arena, setup, schedule).err();
     drop(hoard);
     Ok(fault)
 }

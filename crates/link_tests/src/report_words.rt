@@ -1,5 +1,6 @@
 //! A run in words: a line for each step, then the requests, the order, whether it was timely, and the device.
 
+use bumpalo::Bump;
 use lamp_board::Lamp;
 use mctp_schedule::{EntryRef, OpenedRequest, Report, Schedule, Setup, Steps, run};
 use pldm_device::SimDevice;
@@ -44,7 +45,8 @@ pub fn push_run<P: InWords>(
     setup: Setup<P>,
     schedule: &Schedule,
 ) -> Result<(), Fail> {
-    let report = run(alloc, setup, schedule)?;
+    let arena = Bump::new(alloc);
+    let report = run(alloc, &arena, setup, schedule)?;
     push_report(text, schedule.steps(), &report)?;
     Ok(())
 }
@@ -53,7 +55,7 @@ pub fn push_run<P: InWords>(
 fn push_report<P: InWords>(
     text: &mut String,
     steps: &Steps,
-    report: &Report<P>,
+    report: &Report<'_, P>,
 ) -> Result<(), AllocError> {
     for (step, entry) in steps.iter().zip(report.entries.iter()) {
         write!(text, "{} ", step.moment.get())?;
@@ -133,7 +135,7 @@ fn push_status(text: &mut String, status: Status<'_>) -> Result<(), AllocError> 
 }
 
 /// Adds a line for each request: who asked, its number, instance ID and tag, when it was opened, and its message.
-pub fn push_requests(text: &mut String, requests: &[OpenedRequest]) -> Result<(), AllocError> {
+pub fn push_requests(text: &mut String, requests: &[OpenedRequest<'_>]) -> Result<(), AllocError> {
     for request in requests {
         let (source, own) = (request.requester().get(), request.number());
         write!(text, "from {source} number {own} ")?;

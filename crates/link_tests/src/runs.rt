@@ -1,6 +1,7 @@
 //! Schedules of requesters and the example device, and what a run of each reports.
 
 use crate::report_words::{push_requests, push_run};
+use bumpalo::Bump;
 use example_device::description;
 use lamp_board::Lamp;
 use mctp_packet::{Eid, Keep};
@@ -222,7 +223,8 @@ const TWO_REQUESTERS: (&str, &str) = (
 
 /// Adds the requests of a run of the example device over a schedule.
 fn push_requests_of_run(text: &mut String, alloc: Global, schedule: &Schedule) -> Result<(), Fail> {
-    let report = run(alloc, example(alloc)?, schedule)?;
+    let arena = Bump::new(alloc);
+    let report = run(alloc, &arena, example(alloc)?, schedule)?;
     push_requests(text, &report.requests)?;
     Ok(())
 }
@@ -269,7 +271,8 @@ fn another_platform_is_run(rt: HostRuntime) -> Result<(), Fail> {
 /// The fault of a run of the example device over a schedule.
 fn fault_of_run(alloc: Global, schedule: &str) -> Result<Option<RunFault>, Fail> {
     let schedule = Schedule::read(alloc, schedule.as_bytes())?;
-    Ok(run(alloc, example(alloc)?, &schedule).err())
+    let arena = Bump::new(alloc);
+    Ok(run(alloc, &arena, example(alloc)?, &schedule).err())
 }
 
 #[test]

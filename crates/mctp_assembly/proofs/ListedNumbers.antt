@@ -59,9 +59,9 @@ listed_left numbers new l left place listed within removed taken =
     ∙ take-map (λ (entry : ℕ × Opened). entry.0) last (slice_set l place (slice_index_or l last (0, none_open)))
     ∙ ap of (sym taken)
 
-pub left_listed : (numbers new : List ℕ) (l left : Numbered) (k place : ℕ) → AreListed numbers l → IsAt none_open l k place
+pub stays_listed : (numbers new : List ℕ) (l left : Numbered) (k place : ℕ) → AreListed numbers l → IsAt none_open l k place
     → new ≡ swap_remove numbers place 0 → left ≡ swap_remove l place (0, none_open) → AreListed new left
-left_listed numbers new l left k place are is removed taken = record {
+stays_listed numbers new l left k place are is removed taken = record {
   messages = subst AreOpen (sym taken) (open_left l are.messages.differ k place is are.messages.each);
   listed = listed_left numbers new l left place are.listed is.in_range removed taken;
 }

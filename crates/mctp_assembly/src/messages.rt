@@ -217,8 +217,8 @@ fn room_for_bytes(alloc: Global, spare: &mut Option<Box<Body>>) -> Result<Box<Bo
     })
 }
 
-/// Ends the message at this place, and keeps its room for the next one. A list that has room for more than four times
-/// its messages gives back all but twice their room; an empty one gives back all of it.
+/// Ends the message at this place, and keeps its room for the next one. A list that has room for more than four
+/// messages, and for more than four times those that it has, gives back all but twice their room.
 fn end_at(
     numbers: &mut Vec<u16>,
     list: &mut Vec<Buffer>,
@@ -233,7 +233,7 @@ fn end_at(
 {
     numbers.swap_remove(place);
     *spare = Some(list.swap_remove(place).into_room());
-    if list.capacity() > 4 * list.len() {
+    if list.capacity() > 4 * list.len().max(1) {
         numbers.shrink_to(2 * list.len());
         list.shrink_to(2 * list.len());
     }

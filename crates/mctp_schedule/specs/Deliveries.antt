@@ -1,6 +1,5 @@
 -- What became of a delivered packet.
 use Rattle.std.specs.Prelude.{◌≡◌, ℕ, List, Option, Some, None, option_and_then, slice_get}
-use Rattle.std.specs.Rc.{rc_slice_items}
 use Rattle.pldm_responder.specs.Answering.{answering}
 use Rattle.pldm_responder.specs.declared.outcome.Outcome.{Outcome}
 use Rattle.pldm_responder.specs.declared.outcome.Outcome.TheVariants as outcomes
@@ -11,7 +10,7 @@ use Rattle.mctp_schedule.specs.declared.delivery.KeptDelivery.TheVariants.{Short
 -- what is kept of a delivery, with its answer in place or shared, is its outcome
 abbrev pub outcome_of : KeptDelivery → Outcome
 outcome_of (Short taken reply) = answering reply taken
-outcome_of (Shared taken reply) = answering (rc_slice_items reply) taken
+outcome_of (Shared taken reply) = answering reply.now taken
 
 -- with some answer, this comes to the outcome
 abbrev pub ComesTo : MessageOutcome → Outcome → Type 0

@@ -1,15 +1,10 @@
 -- The numbers of the requests that a tick found due.
-use Rattle.std.specs.Prelude.{ℕ, Bool, true, false, List, [], Option, Some, None}
+use Rattle.std.specs.Prelude.{ℕ, Bool, true, false, List, []}
 use Rattle.pldm_requester.specs.declared.results.Due.{Due}
 
 -- those of a tick that found nothing
 abbrev pub nothing_due : Due
 nothing_due = record { again = record { items = [] }; given_up = record { items = [] } }
-
--- none, where nothing is kept
-abbrev pub due_in : Option Due → Due
-due_in None = nothing_due
-due_in (Some due) = due
 
 abbrev pub are_none : List ℕ → List ℕ → Bool
 are_none [] [] = true

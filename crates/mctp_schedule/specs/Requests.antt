@@ -1,6 +1,5 @@
 -- A request that was opened, and how it stands.
 use Rattle.std.specs.Prelude.{ℕ, List, refl}
-use Rattle.std.specs.Rc.{rc_slice_items}
 use Rattle.std.specs.Coded.{Coded, code_by, coded×, coded_ℕ, coded_list}
 use Rattle.pldm_requester.specs.Courses as courses
 use Rattle.pldm_requester.specs.Slots.{coded_progress}
@@ -15,7 +14,7 @@ pub record Request : Type 0 where
 abbrev pub progress_of : Progress → courses.Progress
 progress_of Waiting = courses.Waiting
 progress_of (AnsweredShort message) = courses.Answered message
-progress_of (AnsweredShared message) = courses.Answered (rc_slice_items message)
+progress_of (AnsweredShared message) = courses.Answered message.now
 progress_of GaveUp = courses.GaveUp
 
 -- it is stored as its parts

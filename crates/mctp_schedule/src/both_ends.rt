@@ -23,6 +23,7 @@ use crate::laws::{
 use crate::places::{Places, begin_requesters};
 use crate::{ActionRef, Entries, Entry, OpenedRequest, RunFault, Schedule, StepRef};
 use arrayvec::ArrayVec;
+use bumpalo::Bump;
 use mctp_packet::{Body, Eid, Keep, Memory, Moment, TAGS};
 use pldm_platform::Platform;
 use pldm_responder::{Bounds, Keeping, Responder};
@@ -42,13 +43,13 @@ pub struct Setup<P: Platform> {
     pub device: P,
 }
 
-/// What came of a schedule.
+/// What came of a schedule. An arena holds its longer answers.
 #[derive(Drop)]
-pub struct Report<P: Platform> {
+pub struct Report<'a, P: Platform> {
     /// What came of each step.
-    pub entries: Entries,
+    pub entries: Entries<'a>,
     /// Each request that was opened, by its number, and how it stands at the end.
-    pub requests: Vec<OpenedRequest>,
+    pub requests: Vec<OpenedRequest<'a>>,
     /// The numbers of the requests that the device performed, in that order.
     pub order: Vec<u64>,
     /// The platform at the end.
@@ -64,6 +65,8 @@ pub struct Report<P: Platform> {
 /// Nothing is lost, repeated or reordered but by the schedule: what is never delivered is lost, and
 /// what is delivered again is a repeat.
 ///
+/// `arena` takes the longer answers and the numbers of what was due, which the report borrows.
+///
 /// The clause `report` says all of the report: what came of each step and request, in which order
 /// requests were performed, the device's state, which commands its platform performed, and whether the
 /// schedule was timely. Where it was, it has the headline too: each request that arrived was performed
@@ -72,11 +75,12 @@ pub struct Report<P: Platform> {
 /// # Errors
 ///
 /// `Timing` for the first requester whose timing is refused, or `Memory` where a growth was refused.
-pub fn run<P: Platform>(
+pub fn run<'a, P: Platform>(
     alloc: Global,
+    arena: &'a Bump<Global>,
     setup: Setup<P>,
     schedule: &Schedule,
-) -> Result<Report<P>, RunFault>
+) -> Result<Report<'a, P>, RunFault>
     ensures ok { IfOk result (λ report. refusal setup.eid setup.keep schedule.now.requesters ≡ None) }
     ensures err { IfErr result (λ fault. (fault ≡ RunFault.Memory out_of_memory) ⊎ (refusal setup.eid setup.keep
         schedule.now.requesters ≡ Some fault)) }
@@ -106,17 +110,18 @@ pub fn run<P: Platform>(
         device,
     } = setup;
     let _range = eid.get(); // for the proof: an endpoint ID
+    let steps = schedule.steps();
     let mut ends = Ends {
         keep,
         window,
         responder: begin_device(alloc, eid, keep, window, device),
         places: begin_requesters(alloc, eid, keep, schedule.requesters())?,
-        journal: Journal::new(alloc),
+        journal: Journal::new(alloc, arena, steps)?,
         arrivals: Arrivals::new(alloc),
         packet: ArrayVec::new(),
         reply: Body::new(),
     };
-    for step in schedule.steps().iter() {
+    for step in steps.iter() {
         ends.run_step(&step)?;
     }
     let Ends {
@@ -162,12 +167,12 @@ fn begin_device<P: Platform>(
 
 /// Both ends, and what is written down of them.
 #[derive(Drop)]
-struct Ends<P: Platform> {
+struct Ends<'a, P: Platform> {
     keep: Keep,
     window: Window,
     responder: Responder<P>,
     places: Places,
-    journal: Journal,
+    journal: Journal<'a>,
     arrivals: Arrivals,
     /// Where the packet of a request is put that comes to the device. There is one room for the whole run, as for
     /// the reply.
@@ -177,7 +182,7 @@ struct Ends<P: Platform> {
     reply: Body,
 }
 
-impl<P: Platform> Ends<P> {
+impl<'a, P: Platform> Ends<'a, P> {
     /// Takes a step.
     fn run_step(&mut self, step: &StepRef<'_>) -> Result<(), Memory>
         requires { CanGoOn (rules_of P.answer P.after P.sensed) (held_by self.old) (borrowed_step step.now) }

@@ -1,32 +1,31 @@
 //! What became of a packet that was delivered to the device, with the answer to it.
 
 ghost use Rattle.std.specs.Prelude.{◌≡◌, IfOk, IfSome, option_map};
-ghost use Rattle.std.specs.Rc.{rc_slice_items};
 ghost use Rattle.mctp_packet.specs.Packets.{written};
 ghost use Rattle.pldm_responder.specs.Answering.{answering};
 ghost use Rattle.mctp_schedule.specs.Deliveries.{ComesTo, packet_of_outcome};
 
 use crate::stored_message::{MAX_SHORT, ShortMessage, share_or_store};
+use bumpalo::Bump;
 use mctp_packet::{MAX_PACKET_BYTES, Memory, PacketRef, packet_at, write};
 use pldm_responder::MessageOutcome;
 use std::alloc::Global;
 use std::marker::Model;
-use std::rc::RcSlice;
 
 /// What became of the packet of a request. An answer is kept as one message, of which packets are made
 /// where they are asked for.
 #[derive(Debug, Drop)]
-pub struct Delivery {
-    kept: KeptDelivery,
+pub struct Delivery<'a> {
+    kept: KeptDelivery<'a>,
 }
 
 // A run keeps one for each delivery, with a short answer in place.
-const _: () = prove!(size_of::<Delivery>() == 24);
+const _: () = prove!(size_of::<Delivery<'_>>() == 24);
 
 /// What is kept of a delivery. Whether its answer is short or shared is the variant of this same type, so that what
 /// became of the packet lies beside the variant's mark and takes no more memory.
 #[derive(Debug, Drop)]
-enum KeptDelivery {
+enum KeptDelivery<'a> {
     /// The answer is short. So is that of a packet which was not answered: it has no bytes.
     Short {
         taken: MessageOutcome,
@@ -35,11 +34,11 @@ enum KeptDelivery {
     /// The answer is longer, and may be shared.
     Shared {
         taken: MessageOutcome,
-        reply: RcSlice<u8>,
+        reply: &'a [u8],
     },
 }
 
-impl Model for Delivery {
+impl<'a> Model for Delivery<'a> {
     ghost use Rattle.mctp_schedule.specs.Deliveries.{outcome_of};
     ghost use Rattle.pldm_responder.specs.declared.outcome.Outcome.{Outcome};
 
@@ -69,17 +68,17 @@ fn part_by_part(taken: MessageOutcome) -> MessageOutcome
     }
 }
 
-impl Delivery {
+impl<'a> Delivery<'a> {
     /// The delivery of which this became, where `reply` is the message that answers it. Its bytes lie where
     /// those of the answer of `last` do if both are long and the same.
     // Inlined: it is then made where it is pushed.
     #[inline(always)]
     pub(crate) fn new(
-        alloc: Global,
+        arena: &'a Bump<Global>,
         taken: MessageOutcome,
         reply: &[u8],
-        last: Option<&Delivery>,
-    ) -> Result<Delivery, Memory>
+        last: Option<&Delivery<'a>>,
+    ) -> Result<Delivery<'a>, Memory>
         ensures { IfOk result (λ delivery. delivery ≡ answering reply.now taken) }
     {
         let taken = part_by_part(taken);
@@ -92,7 +91,7 @@ impl Delivery {
             let reply = ShortMessage::new(reply);
             KeptDelivery::Short { taken, reply }
         } else {
-            let reply = share_or_store(alloc, reply, last)?;
+            let reply = share_or_store(arena, reply, last)?;
             KeptDelivery::Shared { taken, reply }
         };
         Ok(Delivery { kept })
@@ -104,7 +103,7 @@ impl Delivery {
     {
         match &self.kept {
             KeptDelivery::Short { taken, reply } => (taken, reply.bytes()),
-            KeptDelivery::Shared { taken, reply } => (taken, reply.as_slice()),
+            KeptDelivery::Shared { taken, reply } => (taken, reply),
         }
     }
 
@@ -116,21 +115,19 @@ impl Delivery {
     }
 
     /// A share of the bytes of its answer, where they are these and may be shared.
-    pub(crate) fn share(&self, bytes: &[u8]) -> Result<Option<RcSlice<u8>>, Memory>
-        ensures { IfOk result (λ shared. IfSome shared (λ s. rc_slice_items s ≡ bytes.now)) }
+    pub(crate) fn share(&self, bytes: &[u8]) -> Option<&'a [u8]>
+        ensures { IfSome result (λ shared. shared.now ≡ bytes.now) }
     {
         match &self.kept {
             // Compared, and not taken on trust: the journal has each answer as it was given.
-            KeptDelivery::Shared { reply, .. } if reply.as_slice() == bytes => {
-                Ok(Some(reply.clone()?))
-            }
-            _ => Ok(None),
+            KeptDelivery::Shared { reply, .. } if *reply == bytes => Some(reply),
+            _ => None,
         }
     }
 
     /// The bytes of packet `index` of the answer, counted from 0, which are written in front of `room`;
     /// `None` past the last, and where it was not answered.
-    pub fn packet<'a>(&self, index: usize, room: &'a mut [u8; MAX_PACKET_BYTES]) -> Option<&'a [u8]>
+    pub fn packet<'r>(&self, index: usize, room: &'r mut [u8; MAX_PACKET_BYTES]) -> Option<&'r [u8]>
         ensures { option_map (λ bytes. bytes.now) result ≡ packet_of_outcome self.now index }
     {
         let packet = self.answer_packet(index)?;

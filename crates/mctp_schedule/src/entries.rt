@@ -15,14 +15,14 @@ use std::marker::Model;
 /// What came of each step of a run, in the order of the steps. A schedule may have a million of them, so a step
 /// has a small mark, and what else its entry has stands in a column, in the order of the steps too.
 #[derive(Debug, Drop)]
-pub struct Entries {
+pub struct Entries<'a> {
     marks: Vec<Mark>,
     /// The numbers of requests that were opened or answered.
     numbers: Vec<u64>,
     /// What the ticks found due that found anything.
-    dues: Vec<DueRequests>,
+    dues: Vec<DueRequests<'a>>,
     /// What became of the packets of requests.
-    deliveries: Vec<Delivery>,
+    deliveries: Vec<Delivery<'a>>,
 }
 
 /// What came of a step, but for what stands in a column.
@@ -45,7 +45,7 @@ enum Mark {
 // A run has one for each step.
 const _: () = prove!(size_of::<Mark>() == 2);
 
-impl Model for Entries {
+impl<'a> Model for Entries<'a> {
     ghost use Rattle.std.specs.Prelude.{List};
     ghost use Rattle.mctp_schedule.specs.EntryColumns.{IsSpelled, spelled};
     ghost use Rattle.mctp_schedule.specs.declared.entry.Entry.{Entry};
@@ -57,17 +57,18 @@ impl Model for Entries {
     ghost invariant = { λ e. IsSpelled e.marks.items e.numbers.items e.dues.items e.deliveries.items };
 }
 
-impl Entries {
-    /// The entries of no step.
-    pub(crate) fn new(alloc: Global) -> Entries
-        ensures { result ≡ [] }
+impl<'a> Entries<'a> {
+    /// The entries of no step, with room for those of so many steps, of which so many open a request.
+    pub(crate) fn new(alloc: Global, steps: usize, requests: usize) -> Result<Entries<'a>, Memory>
+        ensures { IfOk result (λ entries. entries ≡ []) }
     {
-        Entries {
-            marks: Vec::new(alloc),
-            numbers: Vec::new(alloc),
+        Ok(Entries {
+            marks: Vec::with_capacity(alloc, steps)?,
+            // Most requests are opened and answered.
+            numbers: Vec::with_capacity(alloc, requests.saturating_mul(2))?,
             dues: Vec::new(alloc),
-            deliveries: Vec::new(alloc),
-        }
+            deliveries: Vec::with_capacity(alloc, requests)?,
+        })
     }
 
     /// One for each step.
@@ -97,7 +98,7 @@ impl Entries {
     }
 
     /// The delivery at this place among the deliveries, counted from 0.
-    pub fn delivery(&self, place: usize) -> Option<&Delivery>
+    pub fn delivery(&self, place: usize) -> Option<&Delivery<'a>>
         ensures { option_map (λ delivery. delivery.now) result ≡ slice_get (outcomes_in self.now) place }
     {
         self.deliveries.get(place)
@@ -114,8 +115,8 @@ impl Entries {
     /// Adds what came of the next step.
     // Inlined: it is then known which entry it is, and only its own column is looked at.
     #[inline(always)]
-    pub(crate) fn push(&mut self, entry: Entry) -> Result<(), Memory>
-        ensures ok { OnOk result (self.new ≡ self.old ++ entry ∷ []) }
+    pub(crate) fn push(&mut self, entry: Entry<'a>) -> Result<(), Memory>
+        ensures ok { OnOk result (self.new ≡ self.old ++ entry.entry ∷ []) }
         ensures err { OnErr result (self.new ≡ self.old) }
     {
         // The room for the mark is reserved first: a column that grew where the mark has no room would have one entry
@@ -135,16 +136,16 @@ impl Entries {
 /// Adds to the columns what of an entry stands there, and returns its mark.
 // Inlined: it is then known which entry it is.
 #[inline(always)]
-fn push_parts(
-    entry: Entry,
+fn push_parts<'a>(
+    entry: Entry<'a>,
     numbers: &mut Vec<u64>,
-    dues: &mut Vec<DueRequests>,
-    deliveries: &mut Vec<Delivery>,
+    dues: &mut Vec<DueRequests<'a>>,
+    deliveries: &mut Vec<Delivery<'a>>,
 ) -> Result<Mark, Memory>
-    ensures mark { IfOk result (λ mark. mark ≡ mark_of entry) }
-    ensures numbers { OnOk result (numbers.new.items ≡ numbers.old.items ++ numbers_in_entry entry) }
-    ensures dues { OnOk result (dues.new.items ≡ dues.old.items ++ dues_in_entry entry) }
-    ensures deliveries { OnOk result (deliveries.new.items ≡ deliveries.old.items ++ outcomes_in_entry entry) }
+    ensures mark { IfOk result (λ mark. mark ≡ mark_of entry.entry) }
+    ensures numbers { OnOk result (numbers.new.items ≡ numbers.old.items ++ numbers_in_entry entry.entry) }
+    ensures dues { OnOk result (dues.new.items ≡ dues.old.items ++ dues_in_entry entry.entry) }
+    ensures deliveries { OnOk result (deliveries.new.items ≡ deliveries.old.items ++ outcomes_in_entry entry.entry) }
     ensures err { OnErr result ((numbers.new.items ≡ numbers.old.items) × (dues.new.items ≡ dues.old.items)
         × (deliveries.new.items ≡ deliveries.old.items)) }
 {
@@ -183,8 +184,8 @@ fn push_parts(
 pub struct EntriesIter<'a> {
     marks: &'a [Mark],
     numbers: &'a [u64],
-    dues: &'a [DueRequests],
-    deliveries: &'a [Delivery],
+    dues: &'a [DueRequests<'a>],
+    deliveries: &'a [Delivery<'a>],
 }
 
 impl<'a> Model for EntriesIter<'a> {

@@ -6,7 +6,7 @@ use pldm_requester::{Got, OpenFault};
 
 /// What came of a step.
 #[derive(Debug, Drop)]
-pub enum Entry {
+pub enum Entry<'a> {
     /// Nothing: no such request was opened, or no such packet was sent.
     Nothing,
     /// A request was opened, with this number, counted from 0 over the opened requests of all
@@ -15,13 +15,13 @@ pub enum Entry {
     /// No request was opened. The fault is never `Memory`.
     NotOpened(OpenFault),
     /// What a tick found due. The numbers count the opened requests of all requesters.
-    Due(DueRequests),
+    Due(DueRequests<'a>),
     /// The packet of a request came to the device.
     Delivered {
         /// Whether the device's end was busy after a restart, so that the outcome is a busy answer.
         busy: bool,
         /// What became of the packet.
-        delivery: Delivery,
+        delivery: Delivery<'a>,
     },
     /// A packet of an answer came to its requester. The number of an answered request counts the
     /// opened requests of that requester alone.
@@ -54,7 +54,7 @@ pub enum EntryRef<'a> {
         /// Whether the device's end was busy after a restart, so that the outcome is a busy answer.
         busy: bool,
         /// What became of the packet.
-        delivery: &'a Delivery,
+        delivery: &'a Delivery<'a>,
     },
     /// A packet of an answer came to its requester. The number of an answered request counts the
     /// opened requests of that requester alone.

@@ -1,6 +1,6 @@
 //! The journal of a run: what came of each step so far, and what is known of each request.
 
-ghost use Rattle.std.specs.Prelude.{◌≡◌, ◌+◌, ◌≤◌, ◌<◌, ◌^◌, ◌++◌, ◌∷◌, [], ◌&&◌, ◌==◌, true, ℕ, None, Some, OnOk, IfSome, length, option_and_then, option_map, slice_get, if◌then◌else◌};
+ghost use Rattle.std.specs.Prelude.{◌≡◌, ◌+◌, ◌≤◌, ◌<◌, ◌^◌, ◌++◌, ◌∷◌, [], ◌&&◌, ◌==◌, true, ℕ, None, Some, IfOk, OnOk, IfSome, length, option_and_then, option_map, slice_get, if◌then◌else◌};
 ghost use Rattle.std.specs.List.{list_any};
 ghost use Rattle.mctp_packet.specs.Packets.{written};
 ghost use Rattle.pldm_responder.specs.Answering.{answering};
@@ -13,8 +13,9 @@ ghost use Rattle.mctp_schedule.specs.Requests.{begun};
 
 use crate::askers::{AnsweredRequest, MAX_REQUEST_PACKET_BYTES, SentRequest, over_all};
 use crate::delivery_place::DeliveryPlace;
-use crate::{Delivery, DueRequests, Entries, Entry, OpenedRequest};
+use crate::{Delivery, DueRequests, Entries, Entry, OpenedRequest, Steps};
 use arrayvec::ArrayVec;
+use bumpalo::Bump;
 use mctp_packet::{Eid, HEADER, Memory, Moment, PacketRef};
 use pldm_requester::{Due, Got};
 use pldm_responder::MessageOutcome;
@@ -90,10 +91,11 @@ impl Traffic {
 
 /// The entries so far, and what is known of each request by its number.
 #[derive(Debug, Drop)]
-pub(crate) struct Journal {
-    alloc: Global,
-    pub(crate) entries: Entries,
-    pub(crate) requests: Vec<OpenedRequest>,
+pub(crate) struct Journal<'a> {
+    /// Where longer answers are kept, and the numbers of what was due.
+    arena: &'a Bump<Global>,
+    pub(crate) entries: Entries<'a>,
+    pub(crate) requests: Vec<OpenedRequest<'a>>,
     pub(crate) traffic: Vec<Traffic>,
     /// The requests that were performed, in that order.
     pub(crate) order: Vec<u64>,
@@ -101,23 +103,28 @@ pub(crate) struct Journal {
     pub(crate) timely: bool,
 }
 
-impl Journal {
-    /// A journal of no step.
-    pub(crate) fn new(alloc: Global) -> Journal
-        ensures entries { result.entries ≡ [] }
-        ensures requests { result.requests.items ≡ [] }
-        ensures traffic { result.traffic.items ≡ [] }
-        ensures order { result.order.items ≡ [] }
-        ensures timely { result.timely ≡ true }
+impl<'a> Journal<'a> {
+    /// A journal of no step, with room for what most schedules of these steps bring: a list that grows is copied.
+    pub(crate) fn new(
+        alloc: Global,
+        arena: &'a Bump<Global>,
+        steps: &Steps,
+    ) -> Result<Journal<'a>, Memory>
+        ensures entries { IfOk result (λ journal. journal.entries ≡ []) }
+        ensures requests { IfOk result (λ journal. journal.requests.items ≡ []) }
+        ensures traffic { IfOk result (λ journal. journal.traffic.items ≡ []) }
+        ensures order { IfOk result (λ journal. journal.order.items ≡ []) }
+        ensures timely { IfOk result (λ journal. journal.timely ≡ true) }
     {
-        Journal {
-            alloc,
-            entries: Entries::new(alloc),
-            requests: Vec::new(alloc),
-            traffic: Vec::new(alloc),
-            order: Vec::new(alloc),
+        let opened = steps.open_count();
+        Ok(Journal {
+            arena,
+            entries: Entries::new(alloc, steps.len(), opened)?,
+            requests: Vec::with_capacity(alloc, opened)?,
+            traffic: Vec::with_capacity(alloc, opened)?,
+            order: Vec::with_capacity(alloc, opened)?,
             timely: true,
-        }
+        })
     }
 
     /// Puts the bytes of the packet of a request in the place of those that `packet` has.
@@ -158,7 +165,7 @@ impl Journal {
     }
 
     /// The delivery that brought the latest answer to a request, a busy one or not.
-    pub(crate) fn latest_delivery(&self, number: u64, busy: bool) -> Option<&Delivery>
+    pub(crate) fn latest_delivery(&self, number: u64, busy: bool) -> Option<&Delivery<'a>>
         ensures { option_and_then (λ delivery. packets_of_outcome delivery.now) result ≡ latest_packets
             self.now.entries busy (slice_get self.now.traffic.items number) }
     {
@@ -168,8 +175,8 @@ impl Journal {
     /// Writes down what came of a step that brought nothing of a request.
     // Inlined: it is then known which entry it is.
     #[inline(always)]
-    pub(crate) fn enter(&mut self, entry: Entry) -> Result<(), Memory>
-        ensures entries { OnOk result (self.new.entries ≡ self.old.entries ++ entry ∷ []) }
+    pub(crate) fn enter(&mut self, entry: Entry<'a>) -> Result<(), Memory>
+        ensures entries { OnOk result (self.new.entries ≡ self.old.entries ++ entry.entry ∷ []) }
         ensures requests { OnOk result (self.new.requests.items ≡ self.old.requests.items) }
         ensures traffic { OnOk result (self.new.traffic.items ≡ self.old.traffic.items) }
         ensures order { OnOk result (self.new.order.items ≡ self.old.order.items) }
@@ -224,20 +231,20 @@ impl Journal {
         if due.again.is_empty() && due.given_up.is_empty() {
             return self.enter(Entry::Due(DueRequests::none()));
         }
-        self.enter_some_due(over_all(due, numbers))
+        self.enter_some_due(&over_all(due, numbers))
     }
 
     /// Writes down what a tick found due, by numbers over all requests.
-    fn enter_some_due(&mut self, due: Due) -> Result<(), Memory>
-        requires { (number : ℕ) → list_any (λ n. n == number) due.given_up.items ≡ true → number < length
+    fn enter_some_due(&mut self, due: &Due) -> Result<(), Memory>
+        requires { (number : ℕ) → list_any (λ n. n == number) due.now.given_up.items ≡ true → number < length
             self.old.requests.items }
-        ensures entries { OnOk result (self.new.entries ≡ self.old.entries ++ Entry.Due due ∷ []) }
-        ensures requests { OnOk result (AreChangedBy (progress_after due.given_up.items)
+        ensures entries { OnOk result (self.new.entries ≡ self.old.entries ++ Entry.Due due.now ∷ []) }
+        ensures requests { OnOk result (AreChangedBy (progress_after due.now.given_up.items)
             self.old.requests.items self.new.requests.items) }
         ensures rest { OnOk result (HasSameTraffic self.old self.new) }
     {
         self.give_up(&due.given_up);
-        let due = DueRequests::new(self.alloc, due)?;
+        let due = DueRequests::new(self.arena, due)?;
         self.enter(Entry::Due(due))
     }
 
@@ -278,7 +285,7 @@ impl Journal {
         self.timely = in_time && self.timely;
         // Looked up before this answer is the latest: a copy's answer is mostly the one before it, and is shared.
         let last = self.latest_delivery(number, busy);
-        let delivery = Delivery::new(self.alloc, taken, reply, last)?;
+        let delivery = Delivery::new(self.arena, taken, reply, last)?;
         self.point_to_next_delivery(number, busy);
         self.enter(Entry::Delivered { busy, delivery })
     }
@@ -313,7 +320,7 @@ impl Journal {
     {
         if let Some(AnsweredRequest { number, message }) = answered {
             let delivery = delivery_in(&self.entries, &self.traffic, sent, busy);
-            self.requests[number as usize].answer(self.alloc, message, delivery)?;
+            self.requests[number as usize].answer(self.arena, message, delivery)?;
         }
         self.timely = in_time && self.timely;
         self.enter(Entry::Received(got))
@@ -321,12 +328,12 @@ impl Journal {
 }
 
 /// As [`Journal::latest_delivery`], with what it needs of a journal.
-fn delivery_in<'a>(
-    entries: &'a Entries,
+fn delivery_in<'e, 'a>(
+    entries: &'e Entries<'a>,
     traffic: &[Traffic],
     number: u64,
     busy: bool,
-) -> Option<&'a Delivery>
+) -> Option<&'e Delivery<'a>>
     ensures { option_and_then (λ delivery. packets_of_outcome delivery.now) result ≡ latest_packets
         entries.now busy (slice_get traffic.now number) }
 {

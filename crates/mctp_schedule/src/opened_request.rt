@@ -10,41 +10,41 @@ use crate::Delivery;
 use crate::askers::MAX_REQUEST_PACKET_BYTES;
 use crate::stored_message::{MAX_SHORT, ShortMessage, share_or_store};
 use arrayvec::ArrayVec;
+use bumpalo::Bump;
 use mctp_packet::{Eid, HEADER, Memory, Moment, TAGS, Tag};
 use pldm_requester::Status;
 use pldm_wire::{INSTANCE_IDS, MAX_REQUEST_BYTES};
 use std::alloc::Global;
 use std::marker::Model;
-use std::rc::RcSlice;
 
 /// A request that was opened, and how it stands. Its message has few bytes and stands in place, so that an
 /// opening asks for memory only where a list grows.
 #[derive(Debug, Drop)]
-pub struct OpenedRequest {
+pub struct OpenedRequest<'a> {
     number: u64,
     opening: Moment,
     requester: Eid,
     message: ShortMessage<MAX_REQUEST_BYTES>,
-    progress: Progress,
+    progress: Progress<'a>,
 }
 
 // A run holds one for each request: the requester and the message, with its count, lie in four words together.
-const _: () = prove!(size_of::<OpenedRequest>() == 72);
+const _: () = prove!(size_of::<OpenedRequest<'_>>() == 72);
 
 /// How it stands. The same mark says how its answer is stored.
 #[derive(Debug, Drop)]
-enum Progress {
+enum Progress<'a> {
     /// It is open.
     Waiting,
     /// It was answered, by this short message.
     AnsweredShort(ShortMessage<MAX_SHORT>),
     /// It was answered, by this longer message, which may be shared.
-    AnsweredShared(RcSlice<u8>),
+    AnsweredShared(&'a [u8]),
     /// It was given up.
     GaveUp,
 }
 
-impl Model for OpenedRequest {
+impl<'a> Model for OpenedRequest<'a> {
     ghost use Rattle.mctp_schedule.specs.Requests.{Request, coded_request, progress_of};
 
     ghost Value = { Request };
@@ -57,9 +57,9 @@ impl Model for OpenedRequest {
     } };
 }
 
-impl OpenedRequest {
+impl<'a> OpenedRequest<'a> {
     /// A request that is open, with no message yet.
-    pub(crate) fn new(requester: Eid, number: u64, opening: Moment) -> OpenedRequest
+    pub(crate) fn new(requester: Eid, number: u64, opening: Moment) -> OpenedRequest<'a>
         ensures { result ≡ begun requester number opening [] }
     {
         OpenedRequest {
@@ -141,7 +141,7 @@ impl OpenedRequest {
         match &self.progress {
             Progress::Waiting => Status::Open,
             Progress::AnsweredShort(message) => Status::Answered(message.bytes()),
-            Progress::AnsweredShared(message) => Status::Answered(message.as_slice()),
+            Progress::AnsweredShared(message) => Status::Answered(message),
             Progress::GaveUp => Status::GaveUp,
         }
     }
@@ -157,14 +157,14 @@ impl OpenedRequest {
     /// same.
     pub(crate) fn answer(
         &mut self,
-        alloc: Global,
+        arena: &'a Bump<Global>,
         message: &[u8],
-        sent: Option<&Delivery>,
+        sent: Option<&Delivery<'a>>,
     ) -> Result<(), Memory>
         ensures { OnOk result (self.new ≡ with_progress (Answered message.now) self.old) }
     {
         if message.len() > MAX_SHORT {
-            self.progress = Progress::AnsweredShared(share_or_store(alloc, message, sent)?);
+            self.progress = Progress::AnsweredShared(share_or_store(arena, message, sent)?);
             return Ok(());
         }
         // Its bytes are written where they stay, so that they are not moved.

@@ -1,13 +1,12 @@
-//! A message that is kept: a short one in place, a longer one shared.
+//! A message that is kept: a short one in place, a longer one in the arena of the run.
 
 ghost use Rattle.std.specs.Prelude.{◌≡◌, ◌≤◌, ◌<◌, ◌^◌, [], length, IfOk};
-ghost use Rattle.std.specs.Rc.{rc_slice_items};
 
 use crate::Delivery;
+use bumpalo::Bump;
 use mctp_packet::Memory;
 use std::alloc::Global;
 use std::marker::Model;
-use std::rc::RcSlice;
 
 /// The most bytes of an answer that is stored in place: one with a sensor's reading has no more.
 pub(crate) const MAX_SHORT: usize = 15;
@@ -77,19 +76,19 @@ impl<const MOST: usize> ShortMessage<MOST> {
 
 /// The bytes of a longer message, which lie where those of the answer of `other` do if both are the same: an
 /// answer, its copies and what its requester got take their room once.
-pub(crate) fn share_or_store(
-    alloc: Global,
+pub(crate) fn share_or_store<'a>(
+    arena: &'a Bump<Global>,
     bytes: &[u8],
-    other: Option<&Delivery>,
-) -> Result<RcSlice<u8>, Memory>
-    ensures { IfOk result (λ message. rc_slice_items message ≡ bytes.now) }
+    other: Option<&Delivery<'a>>,
+) -> Result<&'a [u8], Memory>
+    ensures { IfOk result (λ message. message.now ≡ bytes.now) }
 {
     let shared = match other {
-        Some(other) => other.share(bytes)?,
+        Some(other) => other.share(bytes),
         None => None,
     };
     match shared {
         Some(shared) => Ok(shared),
-        None => Ok(RcSlice::from_slice(alloc, bytes)?),
+        None => Ok(arena.try_alloc_slice_copy(bytes)?),
     }
 }

@@ -7,6 +7,7 @@ ghost use Rattle.mctpctl_engines.specs.ScheduleLines.{ReportsText, text_of_finis
 ghost use Rattle.mctpctl_input.specs.Ports.{inner_of, has_failed, ReportsFailed};
 ghost use Rattle.mctpctl_engines.specs.PortFaults.{ReportsNoPort};
 
+use bumpalo::Bump;
 use mctp_schedule::{Report, RunFault, Schedule, Setup, run};
 use mctpctl_input::{EngineFault, Port};
 use mctpctl_texts::{NotWritten, write_report};
@@ -26,17 +27,18 @@ fn stop_of_run(fault: RunFault) -> EngineFault
 
 /// A schedule, and what came of it.
 #[derive(Drop)]
-pub struct FinishedRun {
+pub struct FinishedRun<'a> {
     schedule: Schedule,
-    report: Report<SimDevice>,
+    report: Report<'a, SimDevice>,
 }
 
-/// Runs a schedule over the described device.
-pub fn run_schedule(
+/// Runs a schedule over the described device. The arena takes the longer answers.
+pub fn run_schedule<'a>(
     alloc: Global,
+    arena: &'a Bump<Global>,
     description: Description,
     schedule: Schedule,
-) -> Result<FinishedRun, EngineFault>
+) -> Result<FinishedRun<'a>, EngineFault>
     ensures meets { ReportsText text_of_finished (schedule_written description (Ok schedule)) result }
     ensures ports { ReportsNoPort result }
 {
@@ -53,7 +55,7 @@ pub fn run_schedule(
         window,
         device,
     };
-    let report = match run(alloc, setup, &schedule) {
+    let report = match run(alloc, arena, setup, &schedule) {
         Ok(report) => report,
         Err(fault) => return Err(stop_of_run(fault)),
     };
@@ -63,7 +65,7 @@ pub fn run_schedule(
 /// Writes the text of a run, part by part, which takes no memory.
 pub fn write_finished<W: Write>(
     writer: &mut Port<W>,
-    finished: &FinishedRun,
+    finished: &FinishedRun<'_>,
 ) -> Result<(), EngineFault>
     requires { has_failed writer.old ≡ false }
     ensures text { OnOk result (Appends (W.contents (inner_of writer.old)) (W.contents (inner_of writer.new))

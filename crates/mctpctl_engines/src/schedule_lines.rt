@@ -10,6 +10,7 @@ ghost use Rattle.mctpctl_engines.specs.PortFaults.{ReportsNoPort};
 use crate::described_lines::Described;
 use crate::finished_run::{FinishedRun, run_schedule, write_finished};
 use crate::line_run::LineTaker;
+use bumpalo::Bump;
 use mctp_schedule::{LineFault, LineFaultKind, Schedule};
 use mctpctl_input::{EngineFault, LineKind, MAX_INPUT, Port};
 use pldm_device::Description;
@@ -56,7 +57,12 @@ impl GoodLines {
     }
 
     /// Reads the last line, and runs the schedule.
-    fn run(self, alloc: Global, last: &[u8]) -> Result<FinishedRun, EngineFault>
+    fn run<'a>(
+        self,
+        alloc: Global,
+        arena: &'a Bump<Global>,
+        last: &[u8],
+    ) -> Result<FinishedRun<'a>, EngineFault>
         requires { self.ended ≤ MAX_INPUT }
         ensures meets { ReportsText text_of_finished (good_lines_write self false (last.now ∷ [])) result }
         ensures ports { ReportsNoPort result }
@@ -67,7 +73,7 @@ impl GoodLines {
             ended,
         } = self;
         match schedule.add_line(ended + 1, last) {
-            Ok(()) => run_schedule(alloc, description, schedule),
+            Ok(()) => run_schedule(alloc, arena, description, schedule),
             Err(fault) => Err(stop_of_line(fault)),
         }
     }
@@ -133,8 +139,9 @@ impl LineTaker for ScheduleLines {
         if is_cut {
             return Err(EngineFault::TooLarge);
         }
+        let arena = Bump::new(alloc); // the answers of the run
         match mem::replace(self, ScheduleLines::Ended) {
-            ScheduleLines::Good(lines) => match lines.run(alloc, last) {
+            ScheduleLines::Good(lines) => match lines.run(alloc, &arena, last) {
                 Ok(finished) => write_finished(writer, &finished),
                 Err(fault) => Err(fault),
             },

@@ -80,7 +80,7 @@ fn add_opened(page: &mut Page, phrases: &Phrases, number: u64)
 }
 
 /// Adds what became of the packet of a request.
-fn add_delivered(page: &mut Page, phrases: &Phrases, busy: bool, delivery: &Delivery)
+fn add_delivered(page: &mut Page, phrases: &Phrases, busy: bool, delivery: &Delivery<'_>)
     requires room { length page.old + MAX_ENTRY ≤ PAGE }
     requires phrases { phrases.now ≡ all_phrases }
     ensures { page.new ≡ page.old ++ (delivered_text busy delivery.now ++ 10 ∷ []) }

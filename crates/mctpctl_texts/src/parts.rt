@@ -22,6 +22,9 @@ pub fn write_text<O: TextWriter>(out: &mut O, text: &str) -> Result<(), O::Refus
 pub fn write_number<O: TextWriter>(out: &mut O, number: u64) -> Result<(), O::Refusal>
     ensures { Wrote O.contents O.failed O.refused out.old out.new (decimal number) result }
 {
+    if number < 10 {
+        return out.write_bytes(&[b'0' + number as u8]); // most have one digit
+    }
     let mut digits = Buffer::new();
     write_text(out, digits.format(number))
 }

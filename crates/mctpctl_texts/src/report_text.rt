@@ -28,7 +28,7 @@ use pldm_requester::Status;
 pub fn write_report<O: TextWriter>(
     out: &mut O,
     steps: &Steps,
-    report: &Report<SimDevice>,
+    report: &Report<'_, SimDevice>,
 ) -> Result<(), O::Refusal>
     ensures { Wrote O.contents O.failed O.refused out.old out.new
         (report_text steps.now report.now.entries report.now.requests.items report.now.order.items
@@ -43,7 +43,7 @@ pub fn write_report<O: TextWriter>(
 fn write_items<O: TextWriter>(
     out: &mut O,
     steps: &Steps,
-    report: &Report<SimDevice>,
+    report: &Report<'_, SimDevice>,
 ) -> Result<(), O::Refusal>
     ensures { Wrote O.contents O.failed O.refused out.old out.new
         (entries_text steps.now report.now.entries ++ (requests_text 0 report.now.requests.items
@@ -63,7 +63,7 @@ fn gather_entries<O: TextWriter>(
     page: &mut Page,
     phrases: &Phrases,
     steps: &Steps,
-    entries: &Entries,
+    entries: &Entries<'_>,
 ) -> Result<(), O::Refusal>
     requires { phrases.now ≡ all_phrases }
     ensures { Gathered O.contents O.failed O.refused out.old out.new page.old page.new
@@ -87,7 +87,7 @@ fn gather_requests<O: TextWriter>(
     out: &mut O,
     page: &mut Page,
     phrases: &Phrases,
-    requests: &[OpenedRequest],
+    requests: &[OpenedRequest<'_>],
 ) -> Result<(), O::Refusal>
     requires { phrases.now ≡ all_phrases }
     ensures { Gathered O.contents O.failed O.refused out.old out.new page.old page.new
@@ -104,7 +104,7 @@ fn gather_requests<O: TextWriter>(
 }
 
 /// How the request at this place stands; open where there is none.
-fn status_at(requests: &[OpenedRequest], place: usize) -> Status<'_>
+fn status_at<'s>(requests: &'s [OpenedRequest<'_>], place: usize) -> Status<'s>
     ensures { IfSome (slice_get requests.now place) (λ request. progress_in_status result ≡ request.progress) }
 {
     match requests.get(place) {
@@ -122,7 +122,7 @@ fn gather_request_line<O: TextWriter>(
     page: &mut Page,
     phrases: &Phrases,
     number: u64,
-    request: &OpenedRequest,
+    request: &OpenedRequest<'_>,
     status: Status<'_>,
 ) -> Result<(), O::Refusal>
     requires phrases { phrases.now ≡ all_phrases }

@@ -85,7 +85,11 @@ impl Model for KeptAnswers {
 
     ghost view = { λ k. record { window = k.window; places = vec_capacity k.rows; list = k.rows.items } };
 
-    ghost invariant = { λ k. AreKept (record { window = k.window; places = vec_capacity k.rows; list = k.rows.items }) };
+    ghost invariant = { λ k. AreKept (record {
+      window = k.window;
+      places = vec_capacity k.rows;
+      list = k.rows.items;
+    }) };
 }
 
 /// Room for the answers to a source: a row where the source has none yet. It is given back where it is not put in.

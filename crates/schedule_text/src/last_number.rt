@@ -1,6 +1,6 @@
 //! The number that was read last.
 
-ghost use Rattle.std.specs.Prelude.{◌≡◌, ◌∷◌, IfSome};
+ghost use Rattle.std.specs.Prelude.{◌≡◌, ◌∷◌, ◌++◌, ◌-◌, true, IfSome, drop, length};
 ghost use Rattle.line_words.specs.Lines.{words_of};
 
 use crate::word::Word;
@@ -63,7 +63,7 @@ impl LastNumber {
     {
         let (digits, rest) = text.split_at_checked(self.count)?;
         match rest {
-            [b' ', ..] if digits == self.digits() => {
+            [b' ', ..] if are_same(digits, self.digits()) => {
                 Some((Word::new(digits, Some(self.number)), rest))
             }
             _ => None,
@@ -79,4 +79,31 @@ impl LastNumber {
             self.count = digits.len();
         }
     }
+}
+
+/// Whether both have the same digits.
+// A usual number has four to eight digits: they are compared as two groups of four, by no loop and no call.
+#[inline(always)]
+fn are_same(digits: &[u8], others: &[u8]) -> bool
+    ensures { result ≡ true → digits.now ≡ others.now }
+{
+    match (in_groups(digits), in_groups(others)) {
+        (Some((first, last)), Some((other_first, other_last))) if digits.len() == others.len() => {
+            first == other_first && last == other_last
+        }
+        _ => digits == others,
+    }
+}
+
+/// The first and the last four of four to eight digits.
+#[inline(always)]
+fn in_groups(digits: &[u8]) -> Option<(&[u8; 4], &[u8; 4])>
+    ensures { IfSome result (λ groups. digits.now ≡ groups.0.now ++ drop (8 - length digits.now) groups.1.now) }
+{
+    if digits.len() > 8 {
+        return None;
+    }
+    let (first, _) = digits.split_first_chunk()?;
+    let (_, last) = digits.split_last_chunk()?;
+    Some((first, last))
 }

@@ -2,9 +2,9 @@
 
 ghost use Rattle.std.specs.Prelude.{◌≡◌, ◌++◌, ◌∷◌, [], ◌<◌, ◌==◌, length, map, IfOk, OnOk, OnErr};
 ghost use Rattle.std.specs.Iterator.{YieldsFirstBy, item_count};
-ghost use Rattle.std.specs.List.{IsFirstAndRest};
+ghost use Rattle.std.specs.List.{IsFirstAndRest, flat_map};
 ghost use Rattle.schedule_text.specs.Schedules.{last_moment};
-ghost use Rattle.schedule_text.specs.StepColumns.{borrowed_step, commands_in_action, mark_of, moment_of_step, numbers_in_action, readings_in_action};
+ghost use Rattle.schedule_text.specs.StepColumns.{borrowed_step, commands_in_action, commands_in_step, mark_of, moment_of_step, numbers_in_action, readings_in_action};
 
 use crate::moments::{MomentRun, MomentsIter, push_moment};
 use crate::{Action, ActionRef, Step, StepRef};
@@ -92,6 +92,13 @@ impl Steps {
         ensures { result ≡ (length self.now == 0) }
     {
         self.marks.is_empty()
+    }
+
+    /// How many of them open a request.
+    pub fn open_count(&self) -> usize
+        ensures { result ≡ length (flat_map commands_in_step self.now) }
+    {
+        self.commands.len()
     }
 
     /// Their moments, which a report shows with what came of them.

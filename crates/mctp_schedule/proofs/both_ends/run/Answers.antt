@@ -26,11 +26,11 @@ use Rattle.mctp_schedule.proofs.both_ends.run.Goals as goal
 pub loop-step-init : goal.loop-step-init
 loop-step-init g c =
     let setting = setting_of_run (rules_of g.P.Platform.answer g.P.Platform.after g.P.Platform.sensed) (g.P.Platform.state c.args.setup.device) c.args.setup.eid c.args.setup.keep c.args.setup.window c.args.schedule.now in
-    let empty = c.new.ensures in
+    let empty = c.in_ok-new.ensures in
     let begun = c.in_ok-begin_requesters.ensures.begin in
     record {
       done = [];
-      all = sym (c.into_iter-step-iterator.ensures.into_iter_gives ∙ c.iter-step-items.ensures ∙ c.steps.ensures.value);
+      all = sym (c.into_iter-step-iterator.ensures.into_iter_gives ∙ c.iter-step-items.ensures ∙ c.steps-steps.ensures.value);
       in_order = tt;
       runs = begins setting
           (record {
@@ -38,7 +38,7 @@ loop-step-init g c =
             window = c.args.setup.window;
             responder = c.begin_device.result;
             places = c.in_ok-begin_requesters.field-0.items;
-            journal = c.new.result;
+            journal = c.in_ok-new.field-0;
             arrivals = c.new-2.result;
           })
           refl refl c.get-range.ensures.range c.looks_back.ensures.new c.looks_back.ensures.same c.looks_back-2.ensures.new c.looks_back-2.ensures.same c.begin_device.ensures.held
@@ -54,7 +54,7 @@ run_step-requires g c =
     let terms : RunSettings g.row.P-State.Denot = record { start = g.P.Platform.state c.args.setup.device; eid = c.args.setup.eid; keep = c.args.setup.keep; window = c.args.setup.window; requesters = schedule.requesters } in
     let i = c.loop-step.invariant in
     let step = borrowed_step c.in-Some.step in
-    let valid = c.steps.ensures.valid in
+    let valid = c.steps-steps.ensures.valid in
     let all = i.all ∙ ap (λ rest. i.done ++ rest) c.in-Some.ensures.steps in
     (terms, reverse i.done, i.runs, may_come schedule.requesters schedule.steps i.done c.next.new.self step all valid.in_order valid.known)
 
@@ -65,7 +65,7 @@ loop-step-preserved g c =
     let terms : RunSettings g.row.P-State.Denot = record { start = g.P.Platform.state c.args.setup.device; eid = c.args.setup.eid; keep = c.args.setup.keep; window = c.args.setup.window; requesters = schedule.requesters } in
     let i = c.loop-step.invariant in
     let step = borrowed_step c.in-Some.step in
-    let valid = c.steps.ensures.valid in
+    let valid = c.steps-steps.ensures.valid in
     let all = i.all ∙ ap (λ rest. i.done ++ rest) c.in-Some.ensures.steps in
     let may = may_come schedule.requesters schedule.steps i.done c.next.new.self step all valid.in_order valid.known in
     let runs = c.in_ok-run_step.ensures.goes_on terms (reverse i.done) i.runs may in

@@ -4,7 +4,7 @@ use Rattle.mctp_assembly.specs.NumberLists.{Changes, IsAt, at}
 use Rattle.mctp_assembly.specs.Steps.{answer_to, left_by}
 use Rattle.mctp_assembly.specs.Numbered.{none_open, Numbered}
 use Rattle.mctp_assembly.proofs.OpenPlaces.{few}
-use Rattle.mctp_assembly.proofs.ListedNumbers.{left_listed}
+use Rattle.mctp_assembly.proofs.ListedNumbers.{stays_listed}
 use Rattle.mctp_assembly.proofs.TakenPackets.{fed_here, kept_here, ended_here, fed_alone, unchanged_at_end}
 use Rattle.mctp_assembly.proofs.messages.Messages.take_end.Goals as goal
 
@@ -13,7 +13,7 @@ end_at-requires-clause-few c = few c.self.inside.list.items c.self.invariant.mes
 
 pub invariant_of-self : goal.invariant_of-self
 invariant_of-self c =
-    left_listed c.self.inside.numbers.items c.end_at.new.numbers.items c.self.inside.list.items c.end_at.new.list.items c.args.number c.in-Some.place c.self.invariant
+    stays_listed c.self.inside.numbers.items c.end_at.new.numbers.items c.self.inside.list.items c.end_at.new.list.items c.args.number c.in-Some.place c.self.invariant
     (subst (λ (l : Numbered). IsAt none_open l c.args.number c.in-Some.place) (sym c.self.view_is) c.in-Some.ensures.found) c.end_at.ensures.numbers c.end_at.ensures.list
 
 pub returns-in-Dropped-clause-fed : goal.returns-in-Dropped-clause-fed

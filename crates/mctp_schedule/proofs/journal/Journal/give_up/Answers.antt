@@ -24,6 +24,7 @@ loop-number-preserved c =
     record {
       requests = one_more numbers c.args.self.now.requests.items i now was c.give_up.new.self c.loop-number-test.true c.loop-number.invariant.requests within (get_or now n was within ∙ ap Some (sym c.index_mut.ensures.value)) c.give_up.ensures;
       all = length_set now n c.give_up.new.self ∙ all;
+      arena = c.loop-number.invariant.arena;
       entries = c.loop-number.invariant.entries;
       traffic = c.loop-number.invariant.traffic;
       order = c.loop-number.invariant.order;

@@ -2,7 +2,6 @@
 use Rattle.std.proofs.Common.{◌≡◌, ◌<◌, ◌+◌, ◌∷◌, Some, length, get_or, drop, take, sym, ap, ◌∙◌, arith, rules}
 use Rattle.std.proofs.lemmas.Bool.Decides.{nat_tests}
 use Rattle.std.proofs.lemmas.List.{get_or-drop}
-use Rattle.std.proofs.lemmas.Slice.Eq.{bytes_eq-Decides}
 use Rattle.line_words.specs.Lines.{words_of}
 use Rattle.line_words.specs.Numbers.{decimal_of}
 use Rattle.schedule_text.proofs.KnownWords.{number_first}
@@ -18,7 +17,7 @@ returns-in-32 c =
     let inside : i.count < length text = omega (arith, some, parts.4) in
     let here : i.count ≡ i.count + 0 = omega arith in
     let space : get_or text i.count 0 ≡ 32 = ap (λ n. get_or text n 0) here ∙ sym (ap (λ r. get_or r 0 0) parts.2 ∙ get_or-drop i.count text 0 0) ∙ first in
-    let same : c.in_ok-digits.digits.now ≡ c.digits.result.now = (bytes_eq-Decides c.in_ok-digits.digits.now c.digits.result.now).0 (sym c.eq.ensures ∙ c.if-eq.true) in
+    let same : c.in_ok-digits.digits.now ≡ c.digits.result.now = c.are_same.ensures c.if-are_same.true in
     let digits : take i.count text ≡ take i.count i.room = sym parts.1 ∙ same ∙ c.digits.ensures ∙ sym c.self.view_is in
     let number : decimal_of (take i.count text) ≡ Some i.number = ap decimal_of digits ∙ c.self.invariant.1 in
     number_first text i.count i.number number inside space
