@@ -1,12 +1,13 @@
--- A packet that is dropped was received.
-use Rattle.std.proofs.Common.{◌≡◌, ℕ, List, [], refl, ap, subst}
+-- What a packet brought that these bytes are, and that a packet that is dropped was received.
+use Rattle.std.proofs.Common.{◌≡◌, ℕ, List, [], Ok, refl, sym, ap, subst}
+use Rattle.mctp_packet.specs.Packets.{Packet}
 use Rattle.mctp_packet.specs.declared.reason.Reason.{Reason}
 use Rattle.pldm_wire.specs.declared.command.Command.{Command}
 use Rattle.pldm_responder.specs.Arrivals.{Drop, request_packet}
 use Rattle.pldm_responder.specs.Ends.{End, has_row}
 use Rattle.pldm_responder.specs.Fitting.{ArrivalFits}
 use Rattle.pldm_responder.specs.ResponderStates.{IsHeld}
-use Rattle.pldm_responder.specs.Looking.{end_after}
+use Rattle.pldm_responder.specs.Looking.{HasArrived, end_after}
 use Rattle.pldm_responder.specs.OpenOrder.{open_passed}
 use Rattle.pldm_responder.specs.Performing.{Rules}
 use Rattle.pldm_responder.specs.Receiving.{HasReceived}
@@ -14,7 +15,13 @@ use Rattle.pldm_responder.specs.Rooms.{AreRowsAfter}
 use Rattle.pldm_responder.specs.Slots.{kept_in, source_count}
 use Rattle.pldm_responder.specs.ResponderViews.{ResponderView, held_of}
 use Rattle.pldm_responder.specs.Steps.{arrival_commands, arrival_held, arrival_outcome, open_after, received_arrival}
+use Rattle.pldm_responder.specs.declared.arriving.Arrived.{Arrived}
 use Rattle.pldm_responder.specs.declared.outcome.Outcome.TheVariants.{Dropped}
+
+-- what the packet of these bytes brought is what the bytes did
+pub arrived_in : (old : End) (moment : ℕ) (bytes : List ℕ) (new : End) (arrived : Arrived) {p : Packet} → request_packet old.own bytes ≡ Ok p
+    → HasArrived old moment (Ok p) new arrived → HasArrived old moment (request_packet old.own bytes) new arrived
+arrived_in old moment bytes new arrived is has = subst (λ read. HasArrived old moment read new arrived) (sym is) has
 
 pub received_where_dropped : {P S : Type 0} (performing : P → List Command → P → Type 0) (inside old : ResponderView P S) (moment : ℕ) (bytes : List ℕ) (end : End) (device : Rules S) (reason : Reason)
     → inside ≡ old → Drop reason ≡ received_arrival (held_of inside) moment bytes → end ≡ end_after inside.end moment bytes

@@ -77,30 +77,37 @@ abbrev pub is_copy_of : {S : Type 0} → ℕ → Message → Option (Place S) �
 is_copy_of keep m None = false
 is_copy_of keep m (Some place) = bytes_eq m.bytes place.message.bytes && nat_lt m.moment (place.message.moment + keep)
 
+-- of these places, which have the newest first, that of an instance ID, if it is among the `window` newest
+abbrev pub origin_among : {S : Type 0} → ℕ → List (Place S) → ℕ → Option (Place S)
+origin_among window places id = of_number id_of id (take window places)
+
 module _ {S : Type 0} (busy : BusyTime) (window keep : ℕ) where
-  -- the fresh messages of a source since the last restart, of each instance ID the latest, the newest first
+  -- m is neither refused in the busy time nor a copy, where these are the recent fresh messages of its source
+  abbrev pub is_fresh_after : List (Place S) → List (Event S) → Message → Bool
+  is_fresh_after places events m =
+      not (is_refused busy keep events m) && not (is_copy_of keep m (origin_among window places (id_at m.bytes)))
+
+  -- the recent fresh messages of a source: since the last restart, of each instance ID the latest, the newest first
   abbrev pub recent : List (Event S) → ℕ → List (Place S)
   recent [] source = []
   recent (Set _ _ ∷ events) source = recent events source
   recent (Restarted _ ∷ events) source = []
   recent (Changed _ ∷ events) source = recent events source
   recent (Came m ∷ events) source =
-      if m.source == source
-      && (not (is_refused busy keep events m)
-      && not (is_copy_of keep m (of_number id_of (id_at m.bytes) (take window (recent events m.source)))))
+      if m.source == source && is_fresh_after (recent events source) events m
       then renewed id_of (record { before = events; message = m }) (recent events source)
       else recent events source
 
   -- the latest fresh message of a source and an instance ID, if that is among the source's `window` latest
   abbrev pub origin : List (Event S) → ℕ → ℕ → Option (Place S)
-  origin events source id = of_number id_of id (take window (recent events source))
+  origin events source id = origin_among window (recent events source) id
 
   abbrev pub is_copy : List (Event S) → Message → Bool
   is_copy events m = is_copy_of keep m (origin events m.source (id_at m.bytes))
 
   -- neither refused in the busy time nor a copy
   abbrev pub is_fresh : List (Event S) → Message → Bool
-  is_fresh events m = not (is_refused busy keep events m) && not (is_copy events m)
+  is_fresh events m = is_fresh_after (recent events m.source) events m
 
   -- whether an answer is kept for this source and this instance ID: whether it has an origin
   abbrev pub is_kept : List (Event S) → ℕ → ℕ → Bool

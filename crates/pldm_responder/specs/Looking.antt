@@ -4,6 +4,7 @@ use Rattle.std.specs.Prelude.{◌≡◌, ◌≢◌, ℕ, ◌<◌, Bool, true, fa
 use Rattle.mctp_packet.specs.Ids.{IsEid}
 use Rattle.mctp_packet.specs.Packets.{Packet}
 use Rattle.mctp_packet.specs.declared.packet.Route.{Route}
+use Rattle.mctp_packet.specs.declared.reason.Reason.{Reason}
 use Rattle.mctp_assembly.specs.Steps as assembly
 use Rattle.mctp_assembly.specs.declared.fed.Fed.TheVariants as assembled
 use Rattle.mctp_assembly.specs.declared.key.Key.{Key}
@@ -11,7 +12,7 @@ use Rattle.pldm_responder.specs.Arrivals.{Arrival, Drop, Part, Whole, message_of
 use Rattle.pldm_responder.specs.Ends.{End, held_by}
 use Rattle.pldm_responder.specs.Events.{Message}
 use Rattle.pldm_responder.specs.ResponderStates.{ResponderState}
-use Rattle.pldm_responder.specs.OpenOrder.{begun_fed, begun_passed, ended_passed, is_shut_out, is_shut_out_passed, open_fed, open_passed}
+use Rattle.pldm_responder.specs.OpenOrder.{begun_passed, ended_passed, is_shut_out, is_shut_out_passed, open_passed}
 use Rattle.pldm_responder.specs.Performing.{busy_reply}
 use Rattle.pldm_responder.specs.Requested.{Requested}
 use Rattle.pldm_responder.specs.Steps.{entry_for, received_arrival, refuses_now, repeats}
@@ -38,17 +39,17 @@ arrival_in moment (Dropped reason) = Drop reason
 arrival_in moment Partial = Part
 arrival_in moment (Request r) = Whole (message_at moment r)
 
--- the end once this packet was taken
-abbrev pub end_fed : End → ℕ → Packet → End
-end_fed end moment p = record end { open_messages = open_fed end p; begun = begun_fed end p; last = moment }
+-- the end once a packet was taken that was read so: one that did not pass changes nothing that is open
+abbrev pub end_taken : End → ℕ → Result Packet Reason → End
+end_taken end moment read = record end {
+  open_messages = open_passed end read;
+  begun = begun_passed end read;
+  last = moment;
+}
 
 -- the end once the packet of these bytes was taken
 abbrev pub end_after : End → ℕ → List ℕ → End
-end_after end moment bytes = record end {
-  open_messages = open_passed end (request_packet end.own bytes);
-  begun = begun_passed end (request_packet end.own bytes);
-  last = moment;
-}
+end_after end moment bytes = end_taken end moment (request_packet end.own bytes)
 
 -- the end once what is open of this source and tag has ended
 abbrev pub end_closed : End → ℕ → ℕ → ℕ → End
@@ -61,30 +62,22 @@ end_closed end moment source tag = record end {
 abbrev pub end_finished : End → ℕ → Requested → End
 end_finished end moment r = end_closed end moment r.source r.tag
 
-abbrev pub IsLeftByPacket : End → ℕ → Packet → End → Arrived → Type 0
-IsLeftByPacket old moment p new (Dropped reason) = new ≡ end_fed old moment p
-IsLeftByPacket old moment p new Partial = new ≡ end_fed old moment p
-IsLeftByPacket old moment p new (Request r) =
-    (new ≡ old) × (r.source ≡ p.route.source) × (end_finished old moment r ≡ end_fed old moment p)
-    × (r.destination ≡ p.route.destination)
+-- a request that another endpoint sent to this one
+pub record IsRequestTo (end : End) (r : Requested) : Type 0 where
+  pub other : r.source ≢ end.own
+  pub here : r.destination ≡ end.own
 
--- nothing is done with a request yet
-abbrev pub IsLookedAt : End → ℕ → List ℕ → End → Arrived → Type 0
-IsLookedAt old moment bytes new (Dropped reason) = new ≡ end_after old moment bytes
-IsLookedAt old moment bytes new Partial = new ≡ end_after old moment bytes
-IsLookedAt old moment bytes new (Request r) =
-    (new ≡ old) × (r.source ≢ old.own) × (end_finished old moment r ≡ end_after old moment bytes)
-    × (r.destination ≡ old.own)
+-- the packet was taken; but with the request that it completes nothing is done yet
+abbrev pub IsLookedAt : End → ℕ → Result Packet Reason → End → Arrived → Type 0
+IsLookedAt old moment read new (Dropped reason) = new ≡ end_taken old moment read
+IsLookedAt old moment read new Partial = new ≡ end_taken old moment read
+IsLookedAt old moment read new (Request r) =
+    (new ≡ old) × IsRequestTo old r × (end_finished old moment r ≡ end_taken old moment read)
 
--- the packet was taken
-pub record HasArrived (old : End) (moment : ℕ) (bytes : List ℕ) (new : End) (arrived : Arrived) : Type 0 where
-  pub arrival : arrival_in moment arrived ≡ received_arrival (held_by old) moment bytes
-  pub left : IsLookedAt old moment bytes new arrived
-
--- the same, of a packet that is addressed to the endpoint by another one
-pub record HasComeBy (old : End) (moment : ℕ) (p : Packet) (new : End) (arrived : Arrived) : Type 0 where
-  pub arrival : arrival_in moment arrived ≡ passed_arrival (assembly.answer old.open_messages) moment (Ok p)
-  pub left : IsLeftByPacket old moment p new arrived
+-- a packet that was read so brought this
+pub record HasArrived (old : End) (moment : ℕ) (read : Result Packet Reason) (new : End) (arrived : Arrived) : Type 0 where
+  pub arrival : arrival_in moment arrived ≡ passed_arrival (assembly.answer old.open_messages) moment read
+  pub left : IsLookedAt old moment read new arrived
 
 -- a packet that another endpoint sent to this one with TO 1
 pub record IsSentTo (end : End) (p : Packet) : Type 0 where
@@ -92,11 +85,6 @@ pub record IsSentTo (end : End) (p : Packet) : Type 0 where
   pub other : p.route.source ≢ end.own
   pub here : p.route.destination ≡ end.own
   pub home : IsEid end.own
-
--- a request that another endpoint sent to this one
-pub record IsRequestTo (end : End) (r : Requested) : Type 0 where
-  pub other : r.source ≢ end.own
-  pub here : r.destination ≡ end.own
 
 -- the last packet of several, which another endpoint sent to this one with TO 1
 pub record IsLastFor (end : End) (p : Packet) : Type 0 where
@@ -109,7 +97,7 @@ pub record IsLastFor (end : End) (p : Packet) : Type 0 where
 -- out, and never for the sources
 pub record IsTakenOrRefused
     (old : End) (moment : ℕ) (p : Packet) (new : End) (result : Result Arrived RoomRefusal) : Type 0 where
-  pub ok : IfOk result (HasComeBy old moment p new)
+  pub ok : IfOk result (HasArrived old moment (Ok p) new)
   pub err : OnErr result (new ≡ old)
   pub sources : IsErrOf result Sources → ⊥
   pub open_messages : IsErrOf result OpenMessages ↔ (is_shut_out old p ≡ true)
@@ -125,7 +113,7 @@ pub record IsLast (old : End) (bytes : List ℕ) (new : End) (p : Packet) : Type
   pub same : new ≡ old
 
 abbrev pub HasTaken : End → ℕ → List ℕ → End → Taken → Type 0
-HasTaken old moment bytes new (taken.Arrived arrived) = HasArrived old moment bytes new arrived
+HasTaken old moment bytes new (taken.Arrived arrived) = HasArrived old moment (request_packet old.own bytes) new arrived
 HasTaken old moment bytes new (taken.Last p) = IsLast old bytes new p
 
 -- a whole message was read whose packets had this route

@@ -8,8 +8,8 @@ ghost use Rattle.mctp_packet.specs.declared.TheConstants.{MAX_MESSAGE_BYTES as m
 ghost use Rattle.mctp_assembly.specs.declared.key.Key.{Key as KeyValue};
 ghost use Rattle.pldm_responder.specs.Counts.{CountsKept};
 ghost use Rattle.pldm_responder.specs.Ends.{ChangesOnlyAnswers, End, GetsRoom, end_at_first, end_restarted, IsOwn, IsSameEnd, eid_or_null, held_by};
-ghost use Rattle.pldm_responder.specs.Arrivals.{Part, message_arrival, request_packet};
-ghost use Rattle.pldm_responder.specs.Looking.{OpensMessage, HasArrived, HasComeBy, HasTaken, IsLastFor, IsReadBy, IsReply, IsRequestTo, IsSentTo, IsTakenOrRefused, arrival_in, end_closed, end_finished, is_past_open, message_at, standing};
+ghost use Rattle.pldm_responder.specs.Arrivals.{Part, message_arrival};
+ghost use Rattle.pldm_responder.specs.Looking.{OpensMessage, HasArrived, HasTaken, IsLastFor, IsReadBy, IsReply, IsRequestTo, IsSentTo, IsTakenOrRefused, arrival_in, end_closed, end_finished, is_past_open, message_at, standing};
 ghost use Rattle.pldm_responder.specs.OpenOrder.{begins, is_shut_out_on, way_for};
 ghost use Rattle.mctp_assembly.specs.Keys.{IsKey};
 ghost use Rattle.pldm_responder.specs.Needs.{NeedsMemory};
@@ -289,9 +289,7 @@ impl AnsweringEnd {
         room: &'a mut Body,
     ) -> Arrived<'a>
         requires last { IsLastFor self.old packet.now }
-        ensures by_packet { HasComeBy self.old now packet.now self.new result }
-        ensures arrived { (bytes : List ℕ) → request_packet self.old.own bytes ≡ Ok packet.now
-            → HasArrived self.old now bytes self.new result }
+        ensures { HasArrived self.old now (Ok packet.now) self.new result }
     {
         match self.assembler.feed_without_ending(packet, room) {
             Ok(Assembled::Whole) => self.read(now, &packet.route(), room),

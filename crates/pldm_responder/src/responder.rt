@@ -13,7 +13,7 @@ ghost use Rattle.pldm_responder.specs.Counts.{CountsKept};
 ghost use Rattle.pldm_responder.specs.ResponderStates.{IsHeld, held_at_first};
 ghost use Rattle.pldm_responder.specs.Performing.{rules_of};
 ghost use Rattle.pldm_responder.specs.Receiving.{HasReceived, IsRefusedMemory};
-ghost use Rattle.pldm_responder.specs.Looking.{IsLastFor, message_at};
+ghost use Rattle.pldm_responder.specs.Looking.{IsLastFor, IsRequestTo, message_at};
 ghost use Rattle.pldm_responder.specs.Serving.{IsNotPerformed, IsNotServed, IsPerformed, IsServed};
 ghost use Rattle.pldm_responder.specs.Reserving.{IsWhyNoRoom};
 ghost use Rattle.pldm_responder.specs.Slots.{source_count};
@@ -306,8 +306,7 @@ impl<P: Platform> Responder<P> {
         request: &Request<'_>,
         reply: &mut Body,
     ) -> Result<MessageOutcome, Memory>
-        requires other { request.now.source ≢ self.old.end.own }
-        requires here { request.now.destination ≡ self.old.end.own }
+        requires { IsRequestTo self.old.end request.now }
         ensures ok { IfOk result (IsServed P.performed self.old now request.now self.new
             (rules_of P.answer P.after P.sensed) reply.new.items) }
         ensures err { OnErr result (IsNotServed P.performed self.old now request.now self.new P.STEADY) }
@@ -327,8 +326,7 @@ impl<P: Platform> Responder<P> {
         request: &Request<'_>,
         reply: &mut Body,
     ) -> Result<Option<bool>, Memory>
-        requires other { request.now.source ≢ self.old.end.own }
-        requires here { request.now.destination ≡ self.old.end.own }
+        requires { IsRequestTo self.old.end request.now }
         ensures ok { IfOk result (λ changed. IsServed P.performed self.old now request.now self.new
             (rules_of P.answer P.after P.sensed) reply.new.items
             (outcome_on (way_back self.old.end.own (message_at now request.now)) changed)) }
@@ -352,8 +350,7 @@ impl<P: Platform> Responder<P> {
         request: &Request<'_>,
         reply: &mut Body,
     ) -> Result<bool, Memory>
-        requires other { request.now.source ≢ self.old.end.own }
-        requires here { request.now.destination ≡ self.old.end.own }
+        requires { IsRequestTo self.old.end request.now }
         ensures ok { IfOk result (IsPerformed P.performed self.old now request.now self.new
             (rules_of P.answer P.after P.sensed) reply.new.items) }
         ensures err { OnErr result (IsNotPerformed P.performed self.old now request.now self.new P.STEADY) }
