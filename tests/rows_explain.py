@@ -345,6 +345,11 @@ def others(rows, run):
     check_row(rows, run, "a forgotten moment before a fault", ["answer"], text, (1, f"{want}mctpctl: warning: input line 9: {warning}\n"))
     check_row(rows, run, "a moment alone", ["show"], "0\n1234567890123456\n", (0, ""))
     check_row(rows, run, "a good run", ["run"], f"{TOP}%%\n{ASKER}at 0 open 8 gettid\n", (0, ""))
+    busy = TOP.replace("tid = 1", "busy = 'sets'\ntid = 1")
+    ignored = "`busy = \"sets\"` is ignored: in the busy time a run refuses all requests"
+    check_row(rows, run, "a busy time of settings alone in a run", ["run"], f"{busy}%%\n", (0, f"mctpctl: warning: line 3, column 1: {ignored}\n"))
+    check_row(rows, run, "a busy time of settings alone in an answer", ["answer"], f"{busy}%%\n", (0, ""))
+    check_row(rows, run, "a busy time of all in a run", ["run"], f"{busy.replace('sets', 'all')}%%\n", (0, ""))
 
 
 def check(rows, run):

@@ -1,1 +1,5 @@
 mod Explained
+mod DividedLines
+mod FoundPlaces
+mod WalkedLines
+mod RepeatedWords

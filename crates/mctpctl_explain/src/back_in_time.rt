@@ -1,10 +1,10 @@
 //! Why the moment of a line, of a capture or of a schedule, is refused after those of the lines before it.
 
 use crate::explanation::Subject;
+use crate::quote::quoted;
 use crate::words::words_of;
 use line_words::{read_decimal, split_line};
 use mctp_packet::Memory;
-use mctpctl_wording::quoted;
 use std::alloc::Global;
 
 /// The moment of a line, and the one before it that is later.

@@ -1,10 +1,11 @@
 //! What is wrong with a line of a capture.
 
+use crate::expected::refused_text;
+use crate::quote::quoted;
 use mctp_packet::Memory;
 use mctpctl_input::{
     CaptureRefusal, LineKind, MAX_CAPTURE_LINE, capture_refusal, looks_like_packet,
 };
-use mctpctl_wording::{quoted, refused_text};
 use schedule_text::Expected;
 use std::alloc::Global;
 

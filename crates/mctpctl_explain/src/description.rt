@@ -3,9 +3,12 @@
 ghost use Rattle.std.specs.Prelude.{IfOk, string_bytes};
 ghost use Rattle.mctpctl_explain.specs.Reasons.{IsReason, Explains};
 
+use crate::allowed::{allowed_text, flaw_text};
+use crate::paths::path_text;
+use crate::place::Place;
+use crate::places::Places;
+use crate::quote::quoted;
 use mctp_packet::Memory;
-use mctpctl_places::{Place, Places, path_text};
-use mctpctl_wording::{allowed_text, flaw_text, quoted};
 use pldm_device::{Allowed, FileFault, Path, Refusal};
 use std::alloc::Global;
 use toml::{Table, Value};

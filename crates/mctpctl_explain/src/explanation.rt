@@ -5,11 +5,11 @@ ghost use Rattle.mctpctl_explain.specs.Reasons.{ExplainsDevice, ExplainsLine, Ex
 ghost use Rattle.mctpctl_input.specs.OutsideFaults.{IsOutside};
 
 use crate::description::explain_description;
+use crate::divided::{Divided, numbered_line};
 use crate::timing::explain_timing;
 use crate::{back_in_time, capture_line, schedule_line};
 use mctp_packet::{Eid, Memory};
 use mctpctl_input::{EngineFault, LineKind, MAX_DESCRIPTION, MAX_INPUT};
-use mctpctl_places::{Divided, numbered_line};
 use pldm_device::Description;
 use pldm_requester::TimingFault;
 use std::alloc::Global;

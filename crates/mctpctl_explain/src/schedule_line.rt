@@ -1,9 +1,10 @@
 //! What is wrong with a line of a schedule.
 
+use crate::expected::refused_text;
+use crate::quote::quoted;
 use crate::words::words_of;
 use mctp_packet::Memory;
 use mctpctl_input::LineKind;
-use mctpctl_wording::{quoted, refused_text};
 use schedule_text::{LineFaultKind, refusal_of};
 use std::alloc::Global;
 

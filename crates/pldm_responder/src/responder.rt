@@ -153,7 +153,7 @@ impl<P: Platform> Responder<P> {
     /// Restarts at the moment `now`, which must not be before [`Responder::last_moment`]. The kept
     /// answers and the messages that have begun are lost, and the platform is as before. For the
     /// keeping time from then on the responder is busy: a request that it answered before the restart
-    /// may still be repeated, so none is performed.
+    /// may still be repeated, so none is performed, or none of those that [`Keeping::busy`] names.
     pub fn restart(&mut self, now: Moment)
         requires { (held_of self.old).last ≤ now }
         ensures held { IsHeld (held_of self.new) (restarted_held (held_of self.old) now) }

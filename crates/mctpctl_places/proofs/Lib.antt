@@ -1,3 +1,0 @@
-mod DividedLines
-mod FoundPlaces
-mod WalkedLines

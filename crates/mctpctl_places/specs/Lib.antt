@@ -1,3 +1,0 @@
-pub mod Divisions
-pub mod PathTexts
-pub mod TextPlaces

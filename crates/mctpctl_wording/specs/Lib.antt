@@ -1,2 +1,0 @@
-pub mod RepeatedWords
-pub mod AllowedWords
