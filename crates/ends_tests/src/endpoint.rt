@@ -10,7 +10,7 @@ use std::process::Abort;
 
 /// What becomes of a packet at an endpoint.
 #[derive(Clone, Copy, Debug, PartialEq, Eq)]
-pub enum Fate<'a> {
+enum Fate<'a> {
     /// Its command is to be performed.
     Perform,
     /// It is to be responded to.
@@ -28,7 +28,7 @@ pub enum Fate<'a> {
 }
 
 /// A moment, a packet that comes at it, and what becomes of the packet.
-pub type Row<'a> = (u64, &'a [u8], Fate<'a>);
+type Row<'a> = (u64, &'a [u8], Fate<'a>);
 
 /// What became of a packet that is done with.
 fn outcome_fate(outcome: &Outcome) -> Fate<'_> {
@@ -70,21 +70,21 @@ fn receive(
 }
 
 /// Hands over a packet, and checks what becomes of it.
-pub fn expect(rt: &impl Abort, endpoint: &mut Endpoint, row: &Row<'_>) {
+fn expect(rt: &impl Abort, endpoint: &mut Endpoint, row: &Row<'_>) {
     let (milliseconds, packet, expected) = row;
     let step = receive(rt, endpoint, *milliseconds, packet);
     assert_eq!(rt; fate_of(&step), *expected, "at {milliseconds}");
 }
 
 /// Hands over packets in turn, and checks what becomes of each.
-pub fn play(rt: &impl Abort, endpoint: &mut Endpoint, rows: &[Row<'_>]) {
+fn play(rt: &impl Abort, endpoint: &mut Endpoint, rows: &[Row<'_>]) {
     for row in rows {
         expect(rt, endpoint, row);
     }
 }
 
 /// The handle of the command that a packet has performed.
-pub fn hand_out(
+fn hand_out(
     rt: &impl Abort,
     endpoint: &mut Endpoint,
     milliseconds: u64,
@@ -109,7 +109,7 @@ fn expect_answer(
 }
 
 /// Gives the device's answer, and checks why it is refused.
-pub fn expect_refusal(
+fn expect_refusal(
     rt: &impl Abort,
     endpoint: &mut Endpoint,
     handle: &CommandHandle,
@@ -121,7 +121,7 @@ pub fn expect_refusal(
 
 /// An endpoint that keeps the answers to so many sources for a second, and has at most so many commands
 /// pending and messages open at a time.
-pub fn bounded(
+fn bounded(
     rt: &impl Abort,
     alloc: Global,
     own: Option<Eid>,
@@ -151,9 +151,6 @@ const GET_TID_OF_ANOTHER: &[u8] = b"\x01\x09\x0a\xc8\x01\x80\x00\x02";
 
 /// The response to the first: terminus ID 5.
 const TID_IS_5: &[u8] = b"\x01\x08\x09\xc0\x01\x00\x00\x02\x00\x05";
-
-/// The response to the other: terminus ID 6.
-const TID_OF_ANOTHER_IS_6: &[u8] = b"\x01\x0a\x09\xc0\x01\x00\x00\x02\x00\x06";
 
 /// SetTID to 7 of endpoint 8 to endpoint 9, with instance ID 0.
 const SET_TID: &[u8] = b"\x01\x09\x08\xc8\x01\x80\x00\x01\x07";
@@ -189,45 +186,6 @@ fn a_copy_gets_the_answer_that_the_device_gave(rt: HostRuntime) {
     assert_eq!(rt; endpoint.kept(), 1);
 }
 
-/// Hands out two commands, and answers the second, and then the first.
-fn answer_two(rt: &impl Abort, endpoint: &mut Endpoint) {
-    let first = hand_out(rt, endpoint, 0, GET_TID);
-    let second = hand_out(rt, endpoint, 1, GET_TID_OF_ANOTHER);
-    assert_eq!(rt; endpoint.pending(), 2);
-    expect_answer(rt, endpoint, &second, &TID_6, TID_OF_ANOTHER_IS_6);
-    let copy = Fate::Copy(TID_OF_ANOTHER_IS_6);
-    expect(rt, endpoint, &(2, GET_TID_OF_ANOTHER, copy));
-    expect_answer(rt, endpoint, &first, &TID_5, TID_IS_5);
-}
-
-#[test]
-fn two_commands_are_answered_in_any_order(rt: HostRuntime) {
-    let mut endpoint = endpoint(&rt, rt.alloc(), 2, 2);
-    answer_two(&rt, &mut endpoint);
-    assert_eq!(rt; (endpoint.pending(), endpoint.kept()), (0, 2));
-}
-
-/// Restarts at a moment that is not before the last one.
-fn restart(rt: &impl Abort, endpoint: &mut Endpoint, milliseconds: u64) {
-    let now = Moment::new(milliseconds).expect(rt, "a moment");
-    let last = endpoint.last_moment();
-    assert!(rt; last <= now);
-    endpoint.restart(now);
-}
-
-#[test]
-fn a_second_source_is_refused_until_a_restart(rt: HostRuntime) {
-    let mut endpoint = endpoint(&rt, rt.alloc(), 1, 2);
-    let handle = hand_out(&rt, &mut endpoint, 0, GET_TID);
-    let refused = Fate::Refused(ReceiveRefusal::Sources);
-    expect(&rt, &mut endpoint, &(1, GET_TID_OF_ANOTHER, refused));
-    restart(&rt, &mut endpoint, 5);
-    let late = AnswerRefusal::NotPending;
-    expect_refusal(&rt, &mut endpoint, &handle, &TID_5, late);
-    let served = Fate::Perform;
-    expect(&rt, &mut endpoint, &(1005, GET_TID_OF_ANOTHER, served));
-}
-
 /// Requests of two packets each: a GetTID of endpoint 8 with instance ID 2, and one of endpoint 10 with instance ID 3.
 const BEGUN: &[u8] = b"\x01\x09\x08\x8a\x01\x82";
 
@@ -252,16 +210,6 @@ fn the_oldest_open_message_ends_for_a_new_one(rt: HostRuntime) {
         (0, BEGUN_BY_A_THIRD, Fate::Partial),
         (0, LAST_OF_ANOTHER, stray),
         (0, LAST, Fate::Perform),
-    ];
-    play(&rt, &mut endpoint, rows);
-}
-
-#[test]
-fn an_open_message_is_refused_only_where_none_may_be(rt: HostRuntime) {
-    let mut endpoint = bounded(&rt, rt.alloc(), Eid::new(9), 2, 1, 0);
-    let rows = &[
-        (0, BEGUN, Fate::Refused(ReceiveRefusal::OpenMessages)),
-        (3, GET_TID_OF_ANOTHER, Fate::Perform),
     ];
     play(&rt, &mut endpoint, rows);
 }

@@ -2,8 +2,6 @@
 #![tactic(auto)]
 
 #[cfg(test)]
-mod assigned;
-#[cfg(test)]
 mod endpoint;
 #[cfg(test)]
 mod requester;

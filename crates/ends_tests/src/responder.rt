@@ -122,16 +122,6 @@ const SET_40: &[u8] = b"\x01\x09\x08\xc9\x01\x81\x02\x31\x01\x00\x00\x28";
 
 const SET: &[u8] = b"\x01\x08\x09\xc1\x01\x01\x02\x31\x00";
 
-/// Numeric effecter 1 is set to 50, with another instance ID.
-const SET_50: &[u8] = b"\x01\x09\x08\xca\x01\x82\x02\x31\x01\x00\x00\x32";
-
-const SET_TO_50: &[u8] = b"\x01\x08\x09\xc2\x01\x02\x02\x31\x00";
-
-/// The request for 40 from endpoint 10, and its answer.
-const SET_40_FROM_10: &[u8] = b"\x01\x09\x0a\xc9\x01\x81\x02\x31\x01\x00\x00\x28";
-
-const SET_FOR_10: &[u8] = b"\x01\x0a\x09\xc1\x01\x01\x02\x31\x00";
-
 /// The first packet of a message of several.
 const START: &[u8] = b"\x01\x09\x08\x88\x01\x80";
 
@@ -144,47 +134,6 @@ fn copy_is_answered_on_the_tag_that_it_came_on(rt: HostRuntime) {
     ];
     play(&rt, &mut light, rows);
     assert_eq!(rt; (light.kept(), light.platform().asked()), (1, 1));
-}
-
-/// Sets a light to 40 and to 50, and checks what becomes of the first request at a third moment, and the
-/// level then.
-fn expect_level(rt: &impl Abort, alloc: Global, moment: u64, third: Fate<'_>, level: i64) {
-    let mut light = light(rt, alloc);
-    let rows = &[
-        (0, SET_40, Fate::Set(SET)),
-        (500, SET_50, Fate::Set(SET_TO_50)),
-        (moment, SET_40, third),
-    ];
-    play(rt, &mut light, rows);
-    assert_eq!(rt; (light.platform().level(), light.kept()), (level, 2));
-}
-
-#[test]
-fn answer_is_kept_for_the_keeping_time(rt: HostRuntime) {
-    expect_level(&rt, rt.alloc(), 999, Fate::Copy(SET), 50);
-    expect_level(&rt, rt.alloc(), 1000, Fate::Set(SET), 40);
-}
-
-#[test]
-fn copy_does_not_lengthen_the_keeping(rt: HostRuntime) {
-    let mut light = light(&rt, rt.alloc());
-    let rows = &[
-        (0, SET_40, Fate::Set(SET)),
-        (600, SET_40, Fate::Copy(SET)),
-        (1100, SET_40, Fate::Set(SET)),
-    ];
-    play(&rt, &mut light, rows);
-}
-
-#[test]
-fn another_source_has_its_own_answers(rt: HostRuntime) {
-    let mut light = light(&rt, rt.alloc());
-    let rows = &[
-        (0, SET_40, Fate::Set(SET)),
-        (1, SET_40_FROM_10, Fate::Set(SET_FOR_10)),
-    ];
-    play(&rt, &mut light, rows);
-    assert_eq!(rt; light.kept(), 2);
 }
 
 /// A packet with TO 0; then a message of two packets, of which the first is a part, with PLDM type 5.

@@ -98,35 +98,6 @@ impl Engine {
     }
 }
 
-/// Checks how an engine ends over these lines, and what it writes.
-pub fn expect(
-    rt: &impl Abort,
-    alloc: Global,
-    engine: Engine,
-    lines: &str,
-    end: End,
-    text: &str,
-) -> Result<(), AllocError> {
-    let input = engine.input(alloc, lines)?;
-    let outcome = engine.run_over(alloc, input.as_bytes())?;
-    assert_eq!(rt; outcome.end, end, "{lines}");
-    assert_eq!(rt; outcome.written.as_slice(), text.as_bytes(), "{lines}");
-    Ok(())
-}
-
-/// Checks what an engine writes over the lines of each case, all of which it takes.
-pub fn expect_each(
-    rt: &impl Abort,
-    alloc: Global,
-    engine: Engine,
-    cases: &[(&str, &str)],
-) -> Result<(), AllocError> {
-    for (lines, text) in cases {
-        expect(rt, alloc, engine, lines, End::Done, text)?;
-    }
-    Ok(())
-}
-
 /// Checks how an engine ends over a reader, and that a writer of one byte at a call has this text, flushed once.
 pub fn expect_flushed<R: Read + Drop>(
     rt: &impl Abort,

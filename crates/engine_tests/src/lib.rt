@@ -2,22 +2,16 @@
 #![tactic(auto)]
 
 #[cfg(test)]
-mod answer;
-#[cfg(test)]
 mod engines;
 #[cfg(test)]
 mod failing_ports;
 #[cfg(test)]
 mod fakes;
 #[cfg(test)]
-mod faults;
+mod flushes;
 #[cfg(test)]
 mod limits;
 #[cfg(test)]
 mod ports;
 #[cfg(test)]
 mod refused_growths;
-#[cfg(test)]
-mod run;
-#[cfg(test)]
-mod show;

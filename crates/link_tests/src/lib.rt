@@ -4,8 +4,6 @@
 #[cfg(test)]
 mod memory;
 #[cfg(test)]
-mod report_words;
-#[cfg(test)]
 mod runs;
 #[cfg(test)]
 mod schedules;

@@ -1,6 +1,6 @@
 //! Schedules are read and run with little memory at first, and with more after each refusal.
 
-use crate::runs::{RETRY, TAG_USED_AGAIN, example, expect_run};
+use crate::runs::{RETRY, Row, TAG_USED_AGAIN, example, expect_run};
 use bumpalo::Bump;
 use mctp_schedule::{LineFaultKind, RunFault, Schedule, run};
 use memory_hoard::Hoard;
@@ -53,7 +53,7 @@ fn refuse_each_growth_of_a_read(
 /// Each refusal of a reading is reported as `Memory` and nothing else.
 #[test]
 fn each_growth_of_a_read_is_refused_in_turn(rt: HostRuntime) -> Result<(), Fail> {
-    for ((text, _), steps) in [(RETRY, 5), (TAG_USED_AGAIN, 19)] {
+    for ((text, ..), steps) in [(RETRY, 5), (TAG_USED_AGAIN, 19)] {
         refuse_each_growth_of_a_read(&rt, rt.alloc(), text, steps)?;
     }
     Ok(())
@@ -82,13 +82,8 @@ fn fault_of_run(
 
 /// Runs a schedule with more and more memory, until nothing is refused. After each refusal it is run with memory
 /// at hand.
-fn refuse_each_growth_of_a_run(
-    rt: &impl Abort,
-    alloc: Global,
-    text: &str,
-    expected: &str,
-) -> Result<(), Fail> {
-    let schedule = Schedule::read(alloc, text.as_bytes())?;
+fn refuse_each_growth_of_a_run(rt: &impl Abort, alloc: Global, row: Row<'_>) -> Result<(), Fail> {
+    let schedule = Schedule::read(alloc, row.0.as_bytes())?;
     for refusals in 0..MAX_TRIES {
         let bytes = refusals * RUN_STEP;
         let Some(fault) = fault_of_run(alloc, &schedule, bytes)? else {
@@ -99,7 +94,7 @@ fn refuse_each_growth_of_a_run(
             matches!(fault, RunFault::Memory(_)),
             "{fault} with {bytes} bytes"
         );
-        expect_run(rt, alloc, text, expected)?;
+        expect_run(rt, alloc, row)?;
     }
     Err(Fail::from("never run"))
 }
@@ -108,8 +103,8 @@ fn refuse_each_growth_of_a_run(
 /// same run succeeds with memory at hand.
 #[test]
 fn each_growth_of_a_run_is_refused_in_turn(rt: HostRuntime) -> Result<(), Fail> {
-    for (text, expected) in [RETRY, TAG_USED_AGAIN] {
-        refuse_each_growth_of_a_run(&rt, rt.alloc(), text, expected)?;
+    for row in [RETRY, TAG_USED_AGAIN] {
+        refuse_each_growth_of_a_run(&rt, rt.alloc(), row)?;
     }
     Ok(())
 }

@@ -1,5 +1,6 @@
 //! What of a description is ignored.
 
+use crate::explanation::Subject;
 use crate::input_warnings::MAX_WARNINGS;
 use crate::known_keys::{LISTS, RECORDS_KEYS, TOP_KEYS, entry_keys};
 use crate::paths::path_text;
