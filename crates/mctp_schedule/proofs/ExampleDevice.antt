@@ -4,10 +4,10 @@ use Rattle.std.proofs.Common.{ℕ, ℤ, pos, [], ◌∷◌, replicate}
 use Rattle.pldm_wire.specs.Numbers.{sized}
 use Rattle.pldm_wire.specs.declared.command.Command.TheVariants.{SetNumericEffecterValue}
 use Rattle.pldm_wire.specs.declared.size.Size.TheVariants.{Uint8}
-use Rattle.pldm_device.specs.DeviceAnswers.{answer, after}
-use Rattle.pldm_device.specs.Devices.{Device}
-use Rattle.pldm_device.specs.SensorAnswers.{sensed}
-use Rattle.pldm_device.specs.StateEffecters.{fields_of_states}
+use Rattle.simulated_device.specs.DeviceAnswers.{answer, after}
+use Rattle.simulated_device.specs.Devices.{Device}
+use Rattle.simulated_device.specs.SensorAnswers.{sensed}
+use Rattle.simulated_device.specs.StateEffecters.{fields_of_states}
 use Rattle.pldm_responder.specs.Performing.{rules_of}
 use Rattle.mctp_schedule.specs.Worlds.{BothEnds}
 use Rattle.schedule_text.specs.declared.step.Action.{Action}

@@ -8,7 +8,7 @@ use Rattle.pldm_wire.specs.CommandReading.{command_of}
 use Rattle.pldm_wire.specs.Requests.{request_of}
 use Rattle.pldm_wire.specs.Responses.{response_of}
 use Rattle.pldm_wire.specs.declared.command.Command.TheVariants.{GetTid, GetPdr, GetSensorReading}
-use Rattle.pldm_device.specs.Devices.{Device}
+use Rattle.simulated_device.specs.Devices.{Device}
 use Rattle.pldm_requester.specs.Courses.{Waiting}
 use Rattle.pldm_requester.specs.declared.results.Got.TheVariants as got
 use Rattle.pldm_responder.specs.Performing.{performed}

@@ -11,7 +11,7 @@ use Rattle.mctpctl_input.specs.declared.limits.TheConstants.{MAX_DESCRIPTION}
 use Rattle.mctpctl_engines.proofs.RunsOverLines.{SameStep, same_run}
 use Rattle.mctpctl_engines.proofs.SameCaptures.{same_capture_step}
 use Rattle.pldm_device.specs.Descriptions.{stated}
-use Rattle.pldm_device.specs.Devices.{Device}
+use Rattle.simulated_device.specs.Devices.{Device}
 use Rattle.pldm_device.specs.declared.description.Description.{Description}
 use Rattle.pldm_device.specs.declared.description_fault.FileFault.{FileFault}
 use Rattle.pldm_responder.specs.Calls.{Call, last_moment, outcome}

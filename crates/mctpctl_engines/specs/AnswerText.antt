@@ -10,9 +10,9 @@ use Rattle.mctpctl_input.specs.declared.faults.EngineFault.TheVariants as faults
 use Rattle.mctpctl_input.specs.declared.faults.LineKind.{LineKind}
 use Rattle.mctpctl_input.specs.declared.limits.TheConstants.{MAX_INPUT, MAX_DESCRIPTION}
 use Rattle.pldm_device.specs.Descriptions.{stated}
-use Rattle.pldm_device.specs.DeviceAnswers.{answer, after}
-use Rattle.pldm_device.specs.Devices.{Device}
-use Rattle.pldm_device.specs.SensorAnswers.{sensed}
+use Rattle.simulated_device.specs.DeviceAnswers.{answer, after}
+use Rattle.simulated_device.specs.Devices.{Device}
+use Rattle.simulated_device.specs.SensorAnswers.{sensed}
 use Rattle.pldm_device.specs.declared.description.Description.{Description}
 use Rattle.pldm_device.specs.declared.description_fault.FileFault.{FileFault}
 use Rattle.pldm_responder.specs.Calls.{Call, Received, last_moment, outcome}

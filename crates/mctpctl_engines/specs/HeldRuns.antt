@@ -3,7 +3,7 @@ use Rattle.std.specs.Prelude.{List, ℕ, Bool, Result}
 use Rattle.mctpctl_engines.specs.AnswerText.{step, simulated}
 use Rattle.mctpctl_engines.specs.LineRuns.{Written, lines_written}
 use Rattle.mctpctl_input.specs.declared.faults.LineKind.{LineKind}
-use Rattle.pldm_device.specs.Devices.{Device}
+use Rattle.simulated_device.specs.Devices.{Device}
 use Rattle.pldm_device.specs.declared.description.Description.{Description}
 use Rattle.pldm_responder.specs.ResponderStates.{ResponderState, held_at_first}
 use Rattle.pldm_responder.specs.Steps.{received_outcome, received_held}

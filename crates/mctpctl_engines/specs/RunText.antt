@@ -19,7 +19,7 @@ use Rattle.mctpctl_input.specs.declared.faults.EngineFault.{EngineFault}
 use Rattle.mctpctl_input.specs.declared.faults.EngineFault.TheVariants as faults
 use Rattle.mctpctl_input.specs.declared.faults.LineKind.TheVariants as kinds
 use Rattle.mctpctl_input.specs.declared.limits.TheConstants.{MAX_INPUT}
-use Rattle.pldm_device.specs.Devices.{Device}
+use Rattle.simulated_device.specs.Devices.{Device}
 use Rattle.pldm_device.specs.declared.description.Description.{Description}
 
 -- a refused line of the schedule, reported with its number and kind

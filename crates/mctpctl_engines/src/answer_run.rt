@@ -8,7 +8,7 @@ ghost use Rattle.mctpctl_engines.specs.LineTasks.{AddsLine};
 ghost use Rattle.mctpctl_engines.specs.LongLines.{held_refuses};
 ghost use Rattle.mctpctl_input.specs.Ports.{BothWork, ReportsFailedPorts};
 ghost use Rattle.mctpctl_engines.specs.WholeRuns.{WritesAll, WritesFront, WritesRead};
-ghost use Rattle.pldm_device.specs.Devices.{Device};
+ghost use Rattle.simulated_device.specs.Devices.{Device};
 ghost use Rattle.pldm_responder.specs.ResponderStates.{ResponderState};
 ghost use Rattle.pldm_responder.specs.ResponderViews.{held_of};
 

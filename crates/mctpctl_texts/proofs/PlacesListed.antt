@@ -9,7 +9,7 @@ use Rattle.std.specs.Map.{keys_of}
 use Rattle.std.proofs.lemmas.Map.Keys.{below_from_sorted}
 use Rattle.std.proofs.lemmas.Option.{slice_get-map, slice_get_within, get_or_from_slice_get}
 use Rattle.pldm_records.specs.ById.{ById}
-use Rattle.pldm_device.specs.Getters.{AscendingIds}
+use Rattle.simulated_device.specs.Getters.{AscendingIds}
 
 -- what was found, where something made of it is listed
 pub record IsMadeOf {A B : Type 0} (f : A → B) (found : Option A) (in_all : B) : Type 0 where

@@ -9,8 +9,8 @@ use Rattle.mctp_schedule.specs.declared.entry.Entry.{Entry}
 use Rattle.schedule_text.specs.declared.step.Step.{Step}
 use Rattle.mctpctl_texts.specs.EntryTexts.{entries_text, numbers_text}
 use Rattle.mctpctl_texts.specs.ShownLines.{spaced_line}
-use Rattle.pldm_device.specs.Devices.{Device}
-use Rattle.pldm_device.specs.Getters.{reading_of, states_of, value_of}
+use Rattle.simulated_device.specs.Devices.{Device}
+use Rattle.simulated_device.specs.Getters.{reading_of, states_of, value_of}
 use Rattle.pldm_requester.specs.Courses.{Progress, Waiting, Answered, GaveUp}
 
 -- how a request stands; an answered one stands with its response message

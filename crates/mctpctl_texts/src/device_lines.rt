@@ -6,7 +6,7 @@ ghost use Rattle.mctpctl_texts.specs.Writers.{Wrote};
 
 use crate::parts::{write_number, write_signed, write_text};
 use crate::text_writer::TextWriter;
-use pldm_device::SimDevice;
+use simulated_device::SimDevice;
 
 /// Writes the lines of a device: its terminus ID, and by their IDs its numeric sensors, its numeric
 /// effecters and its state effecters.

@@ -20,8 +20,8 @@ use crate::phrases::Phrases;
 use crate::text_writer::TextWriter;
 use mctp_packet::Eid;
 use mctp_schedule::{Entries, OpenedRequest, Report, Steps};
-use pldm_device::SimDevice;
 use pldm_requester::Status;
+use simulated_device::SimDevice;
 
 /// Writes the lines of a report: what came of each of the steps, how each request stands, the order in
 /// which requests were performed, how the device stands, and whether the schedule was timely.

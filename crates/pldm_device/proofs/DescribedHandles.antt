@@ -5,7 +5,7 @@ use Rattle.pldm_wire.specs.declared.busy_time.BusyTime.{BusyTime}
 use Rattle.pldm_wire.specs.declared.state_fields.SensorStateField.{SensorStateField}
 use Rattle.pldm_records.specs.ById.{ById}
 use Rattle.pldm_device.specs.Descriptions.{description_of, device_of}
-use Rattle.pldm_device.specs.Devices.{Device}
+use Rattle.simulated_device.specs.Devices.{Device}
 use Rattle.pldm_device.specs.EffecterEntries.{numeric_effecters_in, state_effecters_in}
 use Rattle.pldm_device.specs.EndpointSettings.{busy_in, window_in}
 use Rattle.pldm_device.specs.Entries.{entries_at}
@@ -15,11 +15,11 @@ use Rattle.pldm_device.specs.RecordEntries.{record_of, records_after, records_in
 use Rattle.pldm_device.specs.RecordLaws.{DescribedHandlesDiffer, HandlesDiffer}
 use Rattle.pldm_device.specs.RecordTables.{with_records}
 use Rattle.pldm_device.specs.SensorEntries.{numeric_sensors_in, state_sensors_in}
-use Rattle.pldm_device.specs.StateEffecters.{FieldsOfStates}
+use Rattle.simulated_device.specs.StateEffecters.{FieldsOfStates}
 use Rattle.pldm_device.specs.VersionChecksums.{both_versions_in}
 use Rattle.pldm_device.specs.declared.description.Description.{Description}
-use Rattle.pldm_device.specs.declared.numeric.NumericEffecter.{NumericEffecter}
-use Rattle.pldm_device.specs.declared.numeric.NumericSensor.{NumericSensor}
+use Rattle.simulated_device.specs.declared.numeric.NumericEffecter.{NumericEffecter}
+use Rattle.simulated_device.specs.declared.numeric.NumericSensor.{NumericSensor}
 use Rattle.pldm_device.proofs.HandlesApart.{still_differ}
 use Rattle.pldm_device.proofs.RecordsMade.{came, same_done}
 use Rattle.pldm_device.proofs.TablesRecorded.{records_differ}

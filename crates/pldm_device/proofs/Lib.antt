@@ -1,5 +1,4 @@
 pub mod DocumentText
-pub mod Changed
 pub mod Counts
 mod EntityNumbers
 mod TableRefused
@@ -14,5 +13,4 @@ pub mod DescriptionLiterals
 pub mod WorkedDescriptions
 mod WorkedControlTables
 pub mod Numbers
-mod WorkedAnswers
 mod WorkedRecordEntries

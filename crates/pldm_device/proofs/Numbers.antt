@@ -2,8 +2,6 @@
 use Rattle.std.proofs.Common.{◌≡◌, ◌*◌, ◌^◌, refl}
 use Rattle.pldm_device.specs.declared.limits.TheConstants.{MAX_ENTRIES, MAX_ID, MAX_BYTE}
 use Rattle.pldm_device.specs.declared.limits.TheConstants.{MAX_ALLOWED, MAX_SENSOR_STATE}
-use Rattle.pldm_device.specs.declared.limits.TheConstants.{SENSOR_ENABLED, NO_EVENTS, EFFECTER_ENABLED}
-use Rattle.pldm_device.specs.declared.limits.TheConstants.{REQUEST_SET, UNASSIGNED_TID, RESERVED_TID}
 use Rattle.pldm_device.specs.declared.limits.TheConstants.{UUID_BYTES, VERSION_BYTES, MAX_TID}
 use Rattle.pldm_device.specs.declared.limits.TheConstants.{MAX_NAME, MAX_NUMBER, TERMINUS_HANDLE, ONE}
 use Rattle.pldm_device.specs.declared.limits.TheConstants.{CHECKED_VERSION_BYTES}
@@ -22,24 +20,6 @@ most_allowed = refl
 
 most_sensor_state : MAX_SENSOR_STATE ≡ 10
 most_sensor_state = refl
-
-sensor_enabled : SENSOR_ENABLED ≡ 0
-sensor_enabled = refl
-
-no_events : NO_EVENTS ≡ 0
-no_events = refl
-
-effecter_enabled : EFFECTER_ENABLED ≡ 1
-effecter_enabled = refl
-
-request_set : REQUEST_SET ≡ 1
-request_set = refl
-
-unassigned_tid : UNASSIGNED_TID ≡ 0
-unassigned_tid = refl
-
-reserved_tid : RESERVED_TID ≡ 255
-reserved_tid = refl
 
 uuid_bytes : UUID_BYTES ≡ 16
 uuid_bytes = refl

@@ -13,7 +13,7 @@ use Rattle.pldm_pdr.specs.declared.possible_states.PossibleStates.{PossibleState
 use Rattle.pldm_records.specs.ById.{has_id}
 use Rattle.pldm_records.specs.Records.{is_record}
 use Rattle.pldm_records.specs.declared.limits.TheConstants.{MAX_RECORDS}
-use Rattle.pldm_device.specs.Devices.{Device}
+use Rattle.simulated_device.specs.Devices.{Device}
 use Rattle.pldm_device.specs.KeyValues.{◌>>=◌}
 use Rattle.pldm_device.specs.MadeRecords.{made_after, next_handle, record_bytes, record_made, with_made, with_room}
 use Rattle.pldm_device.specs.RecordEntries.{checked, with_record}

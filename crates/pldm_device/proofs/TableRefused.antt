@@ -1,7 +1,7 @@
 -- A table `records` whose entity is refused makes no records.
 use Rattle.std.proofs.Common.{◌≡◌, ℕ, List, Option, Ok, Err, refl}
 use Rattle.toml.specs.Data.{Members}
-use Rattle.pldm_device.specs.Devices.{Device}
+use Rattle.simulated_device.specs.Devices.{Device}
 use Rattle.pldm_device.specs.RecordKeys.{entity_at, name_at}
 use Rattle.pldm_device.specs.RecordTables.{no_entity, table_made}
 use Rattle.pldm_device.specs.declared.description_fault.FileFault.{FileFault}

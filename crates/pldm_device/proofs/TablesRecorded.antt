@@ -5,7 +5,7 @@ use Rattle.toml.specs.Data.{Data, Items, no_items, item, Members, get_member}
 use Rattle.pldm_pdr.specs.declared.data.RecordData.{RecordData}
 use Rattle.pldm_pdr.specs.declared.data.RecordData.TheVariants as records
 use Rattle.pldm_pdr.specs.declared.entity.Entity.{Entity}
-use Rattle.pldm_device.specs.Devices.{Device}
+use Rattle.simulated_device.specs.Devices.{Device}
 use Rattle.pldm_device.specs.Entries.{entries_at}
 use Rattle.pldm_device.specs.KeyValues.{◌>>=◌, table_in}
 use Rattle.pldm_device.specs.MadeRecords.{made_after, with_made}

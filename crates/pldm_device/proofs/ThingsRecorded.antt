@@ -9,21 +9,21 @@ use Rattle.pldm_pdr.specs.declared.data.RecordData.TheVariants as records
 use Rattle.pldm_pdr.specs.declared.entity.Entity.{Entity}
 use Rattle.pldm_pdr.specs.declared.possible_states.PossibleStates.{PossibleStates}
 use Rattle.pldm_records.specs.ById.{has_id, with_id}
-use Rattle.pldm_device.specs.Devices.{Device}
-use Rattle.pldm_device.specs.EffecterAnswers.{numeric_effecter_answered, state_effecter_answered}
+use Rattle.simulated_device.specs.Devices.{Device}
+use Rattle.simulated_device.specs.EffecterAnswers.{numeric_effecter_answered, state_effecter_answered}
 use Rattle.pldm_device.specs.EffecterRecords.{effecter_named, few_fields, numeric_effecter_data, numeric_effecter_made, numeric_effecter_of, state_effecter_data, state_effecter_made, state_effecter_of}
 use Rattle.pldm_device.specs.Entries.{id_at}
 use Rattle.pldm_device.specs.KeyValues.{◌>>=◌}
 use Rattle.pldm_device.specs.RecordKeys.{normal_range_at, state_set_at, thresholds_at, units_at}
 use Rattle.pldm_device.specs.RecordLaws.{HaveStates, Describes}
-use Rattle.pldm_device.specs.SensorAnswers.{numeric_sensor_answered, state_sensor_answered}
+use Rattle.simulated_device.specs.SensorAnswers.{numeric_sensor_answered, state_sensor_answered}
 use Rattle.pldm_device.specs.SensorRecords.{numeric_sensor_data, numeric_sensor_made, numeric_sensor_of, possible, sensor_named, state_sensor_data, state_sensor_made, state_sensor_of, states_of_field, thing_made}
-use Rattle.pldm_device.specs.StateEffecters.{FieldsOfStates}
+use Rattle.simulated_device.specs.StateEffecters.{FieldsOfStates}
 use Rattle.pldm_device.specs.declared.description_fault.FileFault.{FileFault}
 use Rattle.pldm_device.specs.declared.description_fault.FileFault.TheVariants.{MissingKey, OutOfRange}
 use Rattle.pldm_device.specs.declared.made_records.MadeRecords.{MadeRecords}
-use Rattle.pldm_device.specs.declared.numeric.NumericEffecter.{NumericEffecter}
-use Rattle.pldm_device.specs.declared.numeric.NumericSensor.{NumericSensor}
+use Rattle.simulated_device.specs.declared.numeric.NumericEffecter.{NumericEffecter}
+use Rattle.simulated_device.specs.declared.numeric.NumericSensor.{NumericSensor}
 use Rattle.pldm_device.proofs.RecordsMade.{IsMadeAfter, came, effecter_named_made, has_some, or_has_some, passed, same_done, sensor_named_made, sets_have_states, thing_step, twice_mapped}
 
 -- a thing that was found is there

@@ -4,7 +4,7 @@ use Rattle.pldm_wire.specs.Numbers.{sized}
 use Rattle.pldm_wire.specs.HandingOn.{none_handed_on}
 use Rattle.pldm_wire.specs.declared.busy_time.BusyTime.TheVariants.{All, Sets}
 use Rattle.pldm_wire.specs.declared.size.Size.TheVariants.{Uint8}
-use Rattle.pldm_device.specs.StateEffecters.{fields_of_states}
+use Rattle.simulated_device.specs.StateEffecters.{fields_of_states}
 use Rattle.pldm_device.specs.declared.description_fault.FileFault.TheVariants.{Toml, MissingKey, WrongKind, OutOfRange, BadHex, BadRecord, Duplicate}
 use Rattle.pldm_device.specs.Descriptions.{stated}
 use Rattle.pldm_device.proofs.DescriptionLiterals.{description_on_literals}

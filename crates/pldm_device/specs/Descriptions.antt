@@ -3,7 +3,7 @@ use Rattle.std.specs.Prelude.{ℕ, List, codes, Result, Ok}
 use Rattle.mctp_packet.specs.Ids.{IsEid, IsKeep}
 use Rattle.pldm_wire.specs.Settings.{IsWindow}
 use Rattle.toml.specs.Data.{Members}
-use Rattle.pldm_device.specs.Devices.{Device}
+use Rattle.simulated_device.specs.Devices.{Device}
 use Rattle.pldm_device.specs.Documents.{document_of}
 use Rattle.pldm_device.specs.EffecterEntries.{numeric_effecters_in, state_effecters_in}
 use Rattle.pldm_device.specs.EndpointSettings.{busy_in, window_in}

@@ -9,10 +9,10 @@ use Rattle.pldm_records.specs.ById.{ById, has_id}
 use Rattle.pldm_device.specs.KeyValues.{◌>>=◌, value_at, table_in}
 use Rattle.pldm_device.specs.NumberLists.{integers_in, numbers_upto, few_numbers, few_lists, composite_of}
 use Rattle.pldm_device.specs.SizeNames.{size_in, sized_in}
-use Rattle.pldm_device.specs.StateEffecters.{FieldsOfStates}
+use Rattle.simulated_device.specs.StateEffecters.{FieldsOfStates}
 use Rattle.pldm_device.specs.Entries.{entries_at, id_at, things_after}
 use Rattle.pldm_device.specs.declared.limits.TheConstants.{MAX_ALLOWED, MAX_BYTE}
-use Rattle.pldm_device.specs.declared.numeric.NumericEffecter.{NumericEffecter}
+use Rattle.simulated_device.specs.declared.numeric.NumericEffecter.{NumericEffecter}
 use Rattle.pldm_device.specs.declared.description_fault.FileFault.{FileFault}
 use Rattle.pldm_device.specs.declared.description_fault.FileFault.TheVariants.{OutOfRange}
 

@@ -21,12 +21,12 @@ use Rattle.pldm_device.specs.MadeRecords.{with_made}
 use Rattle.pldm_device.specs.RecordKeys.{normal_range_at, number_or, state_set_at, units_at}
 use Rattle.pldm_device.specs.RecordNames.{name_of_first}
 use Rattle.pldm_device.specs.SensorRecords.{conversion_of, normal_support, possible, thing_made}
-use Rattle.pldm_device.specs.StateEffecters.{FieldsOfStates}
+use Rattle.simulated_device.specs.StateEffecters.{FieldsOfStates}
 use Rattle.pldm_device.specs.declared.description_fault.FileFault.{FileFault}
 use Rattle.pldm_device.specs.declared.description_fault.FileFault.TheVariants.{MissingKey, OutOfRange}
 use Rattle.pldm_device.specs.declared.limits.TheConstants.{TERMINUS_HANDLE}
 use Rattle.pldm_device.specs.declared.made_records.MadeRecords.{MadeRecords}
-use Rattle.pldm_device.specs.declared.numeric.NumericEffecter.{NumericEffecter}
+use Rattle.simulated_device.specs.declared.numeric.NumericEffecter.{NumericEffecter}
 use Rattle.pldm_device.specs.declared.record_keys.NormalRange.{NormalRange}
 
 -- the range in the data size; 0 where nothing is said. No range is rated: the effecter takes each number of its own

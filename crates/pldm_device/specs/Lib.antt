@@ -1,10 +1,3 @@
-pub mod StateEffecters
-pub mod Devices
-pub mod BaseAnswers
-pub mod SensorAnswers
-pub mod EffecterAnswers
-pub mod DeviceAnswers
-pub mod DeviceLaws
 pub mod ControlTables
 pub mod EndpointSettings
 pub mod Descriptions
@@ -28,4 +21,3 @@ pub mod SensorRecords
 pub mod EffecterRecords
 pub mod RecordTables
 pub mod RecordLaws
-pub mod Getters

@@ -20,16 +20,16 @@ use Rattle.pldm_records.specs.ById.{has_id, with_id}
 use Rattle.pldm_records.specs.Records.{handle_of, largest_record_size}
 use Rattle.pldm_records.specs.declared.limits.TheConstants.{NO_TRANSFER_TIMEOUT, REPOSITORY_AVAILABLE}
 use Rattle.pldm_device.specs.Descriptions.{description_of}
-use Rattle.pldm_device.specs.DeviceAnswers.{answer}
-use Rattle.pldm_device.specs.Devices.{Device}
-use Rattle.pldm_device.specs.EffecterAnswers.{effecter_field}
+use Rattle.simulated_device.specs.DeviceAnswers.{answer}
+use Rattle.simulated_device.specs.Devices.{Device}
+use Rattle.simulated_device.specs.EffecterAnswers.{effecter_field}
 use Rattle.pldm_device.specs.RecordTables.{with_records}
 use Rattle.pldm_device.specs.SensorRecords.{states_of_field}
-use Rattle.pldm_device.specs.StateEffecters.{FieldsOfStates}
+use Rattle.simulated_device.specs.StateEffecters.{FieldsOfStates}
 use Rattle.pldm_device.specs.declared.description.Description.{Description}
 use Rattle.pldm_device.specs.declared.limits.TheConstants.{EFFECTER_ENABLED, NO_EVENTS, SENSOR_ENABLED}
-use Rattle.pldm_device.specs.declared.numeric.NumericEffecter.{NumericEffecter}
-use Rattle.pldm_device.specs.declared.numeric.NumericSensor.{NumericSensor}
+use Rattle.simulated_device.specs.declared.numeric.NumericEffecter.{NumericEffecter}
+use Rattle.simulated_device.specs.declared.numeric.NumericSensor.{NumericSensor}
 
 -- The device answers for the sensor of the record with a reading of the record's data size, each number of which is in
 -- the record's range.

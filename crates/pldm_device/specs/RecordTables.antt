@@ -6,7 +6,7 @@ use Rattle.pldm_pdr.specs.StateSets.{kept}
 use Rattle.pldm_pdr.specs.declared.data.RecordData.{RecordData}
 use Rattle.pldm_pdr.specs.declared.data.RecordData.TheVariants as records
 use Rattle.pldm_pdr.specs.declared.entity.Entity.{Entity}
-use Rattle.pldm_device.specs.Devices.{Device}
+use Rattle.simulated_device.specs.Devices.{Device, recorded}
 use Rattle.pldm_device.specs.EffecterRecords.{numeric_effecter_made, state_effecter_made}
 use Rattle.pldm_device.specs.Entries.{entries_at}
 use Rattle.pldm_device.specs.KeyValues.{◌>>=◌, table_in}
@@ -91,10 +91,6 @@ table_made eid document device before table = do
   name ← name_at table
   entity ← entity_at no_entity table
   all_made eid document device entity name before
-
--- the device with these records
-abbrev pub recorded : Device → List (List ℕ) → Device
-recorded device records = record device { records = records }
 
 -- records are made of what else the device has
 abbrev pub records_if_there : ℕ → Members → Device → Option Data → Result Device FileFault

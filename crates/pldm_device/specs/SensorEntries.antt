@@ -8,7 +8,7 @@ use Rattle.pldm_device.specs.NumberLists.{few_numbers, few_lists, composite_of}
 use Rattle.pldm_device.specs.SizeNames.{size_in, sized_in}
 use Rattle.pldm_device.specs.Entries.{entries_at, id_at, things_after}
 use Rattle.pldm_device.specs.declared.limits.TheConstants.{MAX_SENSOR_STATE, MAX_BYTE}
-use Rattle.pldm_device.specs.declared.numeric.NumericSensor.{NumericSensor}
+use Rattle.simulated_device.specs.declared.numeric.NumericSensor.{NumericSensor}
 use Rattle.pldm_device.specs.declared.description_fault.FileFault.{FileFault}
 use Rattle.pldm_device.specs.declared.description_fault.FileFault.TheVariants.{OutOfRange}
 

@@ -28,7 +28,7 @@ use Rattle.pldm_device.specs.declared.description_fault.FileFault.{FileFault}
 use Rattle.pldm_device.specs.declared.description_fault.FileFault.TheVariants.{MissingKey}
 use Rattle.pldm_device.specs.declared.limits.TheConstants.{ONE, TERMINUS_HANDLE}
 use Rattle.pldm_device.specs.declared.made_records.MadeRecords.{MadeRecords}
-use Rattle.pldm_device.specs.declared.numeric.NumericSensor.{NumericSensor}
+use Rattle.simulated_device.specs.declared.numeric.NumericSensor.{NumericSensor}
 use Rattle.pldm_device.specs.declared.record_keys.NormalRange.{NormalRange}
 use Rattle.pldm_device.specs.declared.record_keys.Thresholds.{Thresholds}
 

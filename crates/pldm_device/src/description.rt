@@ -7,8 +7,8 @@ ghost use Rattle.toml.specs.Errors.{IsBlank};
 ghost use Rattle.toml.specs.Data.{get_member};
 ghost use Rattle.toml.specs.View.{table_view};
 
+use crate::SimDevice;
 use crate::description_fault::FileFault;
-use crate::device::SimDevice;
 use crate::document::read_document;
 use crate::effecter_entries::{numeric_effecters_in, state_effecters_in};
 use crate::endpoint_settings::{busy_in, window_in};

@@ -1,11 +1,10 @@
-//! A simulated device behind a PLDM terminus, and the description that states it.
+//! The description of a simulated device behind a PLDM terminus, and the records that it has made.
 #![tactic(auto)]
 
 mod allowed;
 mod control_table;
 mod description;
 mod description_fault;
-mod device;
 mod document;
 mod effecter_entries;
 mod effecter_records;
@@ -16,9 +15,7 @@ mod keys;
 mod limits;
 mod made_records;
 mod number_lists;
-mod numeric;
 mod path;
-mod performing;
 mod record_entries;
 mod record_keys;
 pub mod record_laws;
@@ -28,7 +25,6 @@ mod refusal;
 mod sensor_entries;
 mod sensor_records;
 mod size_names;
-mod state_effecter;
 mod unit_names;
 mod version_checksum;
 
@@ -36,10 +32,10 @@ pub use allowed::{Allowed, RecordFlaw};
 pub use control_table::ControlTable;
 pub use description::Description;
 pub use description_fault::FileFault;
-pub use device::SimDevice;
-pub use numeric::{NumericEffecter, NumericSensor};
 pub use path::Path;
 pub use pldm_platform::{Platform, ReadingFault};
 pub use pldm_records::{Fetch, FetchFault, FetchState, MAX_RECORD_BYTES, RECORD_HEADER, laws};
 pub use refusal::Refusal;
-pub use state_effecter::{AllowedStates, StateEffecter};
+pub use simulated_device::{
+    AllowedStates, NumericEffecter, NumericSensor, SimDevice, StateEffecter,
+};

@@ -1,4 +1,4 @@
-//! Numbers that the profile and the standards give for a simulated device.
+//! Numbers that the profile and the standards give for a description.
 
 /// The most entries of a list of a description.
 pub const MAX_ENTRIES: usize = 1_000;
@@ -15,27 +15,8 @@ pub const MAX_ALLOWED: usize = 256;
 /// The greatest state of a numeric sensor: UpperFatal (DSP0248, "presentState").
 pub const MAX_SENSOR_STATE: u32 = 10;
 
-/// The operational state `enabled` of a sensor (DSP0248, "sensorOperationalState").
-pub const SENSOR_ENABLED: u8 = 0;
-
-/// No event generation (DSP0248, "sensorEventMessageEnable").
-pub const NO_EVENTS: u8 = 0;
-
-/// The operational state `enabled-noUpdatePending` of an effecter (DSP0248,
-/// "effecterOperationalState").
-pub const EFFECTER_ENABLED: u8 = 1;
-
-/// The set request `requestSet` (DSP0248, "SetStateEffecterStates command").
-pub const REQUEST_SET: u8 = 1;
-
-/// The terminus ID of a device that was given none (DSP0240, "GetTID").
-pub const UNASSIGNED_TID: u8 = 0;
-
 /// The greatest terminus ID (DSP0240, "SetTID").
 pub const MAX_TID: u32 = 254;
-
-/// The terminus ID that is reserved (DSP0240, "SetTID").
-pub const RESERVED_TID: u8 = 255;
 
 /// The bytes of a UUID (DSP0236, "Get Endpoint UUID").
 pub const UUID_BYTES: usize = 16;

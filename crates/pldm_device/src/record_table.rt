@@ -5,7 +5,7 @@ ghost use Rattle.pldm_device.specs.FileFaults.{IsOrMemory};
 ghost use Rattle.pldm_device.specs.RecordTables.{all_made, each_made, entity_named, entry_made, key_of, kind_made, records_if_there, table_made, terminus_located, terminus_made, things_made, with_records};
 ghost use Rattle.toml.specs.View.{items_view, table_view, view};
 
-use crate::device::SimDevice;
+use crate::SimDevice;
 use crate::effecter_records::{numeric_effecter_made, state_effecter_made};
 use crate::entries::entries_at;
 use crate::keys::{table_in, value_if_any};

@@ -6,7 +6,7 @@ use Rattle.std.proofs.lemmas.Option.{slice_get_within}
 use Rattle.mctpctl_texts.specs.ReportTexts.{value_line}
 use Rattle.mctpctl_texts.proofs.PlacesListed.{made_of, place_below, listed_to_end, written_further}
 use Rattle.mctpctl_texts.proofs.device_lines.write_sensors.Goals as goal
-use Rattle.pldm_device.specs.Getters.{reading_of}
+use Rattle.simulated_device.specs.Getters.{reading_of}
 
 pub overflow_add-place : goal.overflow_add-place
 overflow_add-place g c =

@@ -2,7 +2,7 @@
 use Rattle.std.proofs.Common.{◌≡◌, ◌≤◌, ◌-◌, codes, flat_map, length, take}
 use Rattle.std.specs.Io.KnownBytes.{Appends}
 use Rattle.mctpctl_texts.specs.ReportTexts.{value_line}
-use Rattle.pldm_device.specs.Getters.{reading_of}
+use Rattle.simulated_device.specs.Getters.{reading_of}
 use Rattle.mctpctl_texts.proofs.device_lines.write_sensors.Given as goal
 
 abbrev pub invariant-loop-id : goal.invariant-loop-id
