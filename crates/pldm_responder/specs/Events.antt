@@ -94,7 +94,7 @@ module _ {S : Type 0} (busy : BusyTime) (window keep : ℕ) where
   recent (Restarted _ ∷ events) source = []
   recent (Changed _ ∷ events) source = recent events source
   recent (Came m ∷ events) source =
-      if m.source == source && is_fresh_after (recent events source) events m
+      if m.source == source && is_fresh_after (recent events m.source) events m
       then renewed id_of (record { before = events; message = m }) (recent events source)
       else recent events source
 
