@@ -12,14 +12,16 @@ use crate::code_names::code_name;
 use crate::command_text::push_command;
 use crate::control_line::{push_control_request, push_control_response};
 use crate::field_text::{push_code, push_word};
-use crate::own_answer::read_own_answer;
 use crate::record_text::push_carried_record;
 use mctp_packet::Memory;
 use mctpctl_texts as texts;
 use mctpctl_texts::{
     is_shown_as_response, write_data, write_message_line, write_number, write_text,
 };
-use pldm_wire::{Answer, Kind, RequestRef, ResponseRef, read_command, read_request, read_response};
+use pldm_wire::{
+    Answer, Kind, RequestRef, ResponseRef, read_answer_of, read_command, read_request,
+    read_response,
+};
 
 /// Adds the line of a whole message, two spaces in. A control message (DSP0236) has the fields of its command or its
 /// answer by name; any other one, and a control message that cannot be read, has the line of a PLDM message.
@@ -84,7 +86,7 @@ fn push_response(out: &mut Vec<u8>, message: &[u8]) -> Result<(), Memory>
     let Ok(response) = read_response(message) else {
         return write_message_line(out, message);
     };
-    let Ok(answer) = read_own_answer(&response) else {
+    let Ok(answer) = read_answer_of(response.kind(), &response) else {
         return write_message_line(out, message);
     };
     push_answer_line(out, &response, &answer)?;

@@ -6,11 +6,12 @@ ghost use Rattle.mctpctl_decode.specs.TransferTexts.{checked_lines, ended_lines,
 ghost use Rattle.mctpctl_decode.specs.Transfers.{all_with_asked, all_with_given, asked_by, given, given_by, none_between, with_message};
 ghost use Rattle.mctpctl_engines.specs.MessageForms.{whole_message};
 
-use crate::own_answer::read_own_answer;
 use crate::record_text::{push_record, push_unread_line};
 use crate::transfer::{PartRequest, Transfer};
 use mctp_packet::{Eid, Memory, Route};
-use pldm_wire::{Answer, Command, RecordPart, crc8, read_command, read_request, read_response};
+use pldm_wire::{
+    Answer, Command, RecordPart, crc8, read_answer_of, read_command, read_request, read_response,
+};
 use std::alloc::Global;
 use std::collections::BTreeMap;
 
@@ -94,7 +95,7 @@ impl Transfers {
         let Ok(response) = read_response(message) else {
             return Ok(());
         };
-        match read_own_answer(&response) {
+        match read_answer_of(response.kind(), &response) {
             Ok(
                 Answer::GetPdr {
                     next_data_transfer_handle,

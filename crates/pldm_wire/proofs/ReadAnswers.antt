@@ -4,12 +4,10 @@ use Rattle.std.proofs.Common.{◌≡◌, ℕ, ◌<◌, ◌==◌, true, List, Ok,
 use Rattle.std.proofs.lemmas.Bool.{and_parts, and_from, eq-eqb, ne_eqb, eqb-false, cond-true, cond-false}
 use Rattle.std.proofs.lemmas.Result.{IfOk-weaker}
 use Rattle.pldm_wire.specs.Kinds.{TypeAndCommand, of_type}
-use Rattle.pldm_wire.specs.Commands.{kind_of}
 use Rattle.pldm_wire.specs.Answers.{IsAnswerTo, HasAnswerFields, AnswerFields}
 use Rattle.pldm_wire.specs.PlatformAnswerReading.{platform_answer_of}
-use Rattle.pldm_wire.specs.AnswerReading.{same_kind, success_of, answer_of, AnswersCommand}
+use Rattle.pldm_wire.specs.AnswerReading.{same_kind, success_of, answer_of, AnswersKind}
 use Rattle.pldm_wire.specs.declared.assigned.TheConstants.{BASE, PLATFORM, GET_SENSOR_READING, GET_STATE_SENSOR_READINGS, SET_NUMERIC_EFFECTER_VALUE, GET_NUMERIC_EFFECTER_VALUE, SET_STATE_EFFECTER_STATES, GET_STATE_EFFECTER_STATES, GET_PDR_REPOSITORY_INFO, GET_PDR, SUCCESS}
-use Rattle.pldm_wire.specs.declared.command.Command.{Command}
 use Rattle.pldm_wire.specs.declared.answer.Answer.{Answer}
 use Rattle.pldm_wire.specs.declared.answer.Answer.TheVariants.{Refused, SetTid, GetTid, GetPldmVersion, GetPldmTypes, GetPldmCommands, GetSensorReading, GetStateSensorReadings, SetNumericEffecterValue, GetNumericEffecterValue, SetStateEffecterStates, GetStateEffecterStates, GetPdrRepositoryInfo, GetPdr}
 use Rattle.pldm_wire.specs.declared.answer_reading.AnswerFault.TheVariants.{OtherCommand}
@@ -83,17 +81,17 @@ same_kind-self kind other e =
     and_from _ _ (eq-eqb kind.pldm_type other.pldm_type (ap (λ k. k.pldm_type) e)) (eq-eqb kind.command other.command (ap (λ k. k.command) e))
 
 -- what reading finds has its fields in the code and the bytes
-pub found : (command : Command) (kind : TypeAndCommand) (code : ℕ) (bytes : List ℕ) → code < 256
-    → IfOk (answer_of (kind_of command) kind code bytes) (λ a. AnswersCommand command a kind code bytes)
-found command kind code bytes small =
-    by_test (λ r. IfOk r (λ a. AnswersCommand command a kind code bytes)) (same_kind kind (kind_of command)) _ (Err OtherCommand)
-    (λ same. by_test (λ r. IfOk r (λ a. AnswersCommand command a kind code bytes)) (code == SUCCESS) (success_of kind bytes) (Ok (Refused code))
+pub found : (asked kind : TypeAndCommand) (code : ℕ) (bytes : List ℕ) → code < 256
+    → IfOk (answer_of asked kind code bytes) (λ a. AnswersKind asked a kind code bytes)
+found asked kind code bytes small =
+    by_test (λ r. IfOk r (λ a. AnswersKind asked a kind code bytes)) (same_kind kind asked) _ (Err OtherCommand)
+    (λ same. by_test (λ r. IfOk r (λ a. AnswersKind asked a kind code bytes)) (code == SUCCESS) (success_of kind bytes) (Ok (Refused code))
     (λ success. let is : code ≡ SUCCESS = eqb-true code SUCCESS success in
     IfOk-weaker (success_of kind bytes) _ _
-    (λ a h. record { same_command = same_kind-true kind (kind_of command) same; fields = rw is h })
+    (λ a h. record { same_command = same_kind-true kind asked same; fields = rw is h })
     (success_sound kind.pldm_type kind.command bytes))
     (λ refused. let nonzero : code ≡ SUCCESS → ⊥ = eqb-false code SUCCESS refused in
-    record { same_command = same_kind-true kind (kind_of command) same; fields = record { kind_is = tt; fields = (refl, (omega arith, omega arith)) } }))
+    record { same_command = same_kind-true kind asked same; fields = record { kind_is = tt; fields = (refl, (omega arith, omega arith)) } }))
     (λ _. tt)
 
 -- the same after the command was found to be the one
@@ -105,10 +103,10 @@ by_code a kind code bytes k h =
     cond-true (code == SUCCESS) _ _ (eq-eqb code SUCCESS h.0) ∙ success_only a kind bytes k (rw h.0 at h)
 
 -- every answer whose fields stand in the code and the bytes is read
-pub only : (command : Command) (a : Answer) (kind : TypeAndCommand) (code : ℕ) (bytes : List ℕ)
-    → AnswersCommand command a kind code bytes → answer_of (kind_of command) kind code bytes ≡ Ok a
-only command a kind code bytes h =
-    cond-true (same_kind kind (kind_of command)) _ _ (same_kind-self kind (kind_of command) h.same_command)
+pub only : (asked : TypeAndCommand) (a : Answer) (kind : TypeAndCommand) (code : ℕ) (bytes : List ℕ)
+    → AnswersKind asked a kind code bytes → answer_of asked kind code bytes ≡ Ok a
+only asked a kind code bytes h =
+    cond-true (same_kind kind asked) _ _ (same_kind-self kind asked h.same_command)
     ∙ by_code a kind code bytes h.fields.kind_is h.fields.fields
 
 -- no code and bytes have the fields of two answers of one kind

@@ -48,6 +48,6 @@ pub answer_read_back : (id : ℕ) (c : Command) (a : Answer) → id < INSTANCE_I
 answer_read_back id c a id_range variant range = (
   responses.only (answer_message id (kind_of c) a) id (kind_of c) (code_of a) (answer_data a)
       (record { id_range = id_range; kind_range = kind_is c; reserved = 0; bit = omega arith; bytes_are = refl }),
-  answers.only c a (kind_of c) (code_of a) (answer_data a)
+  answers.only (kind_of c) a (kind_of c) (code_of a) (answer_data a)
       (record { same_command = refl; fields = written_answers.written a (kind_of c) variant range }),
 )

@@ -30,8 +30,12 @@ answer_of asked kind code bytes =
     if same_kind kind asked then (if code == SUCCESS then success_of kind bytes else Ok (Refused code))
     else Err OtherCommand
 
--- the response is this answer to the command
-pub record AnswersCommand (command : Command) (answer : Answer) (kind : TypeAndCommand) (code : ℕ)
+-- the response is this answer to a command of the kind `asked`
+pub record AnswersKind (asked : TypeAndCommand) (answer : Answer) (kind : TypeAndCommand) (code : ℕ)
     (bytes : List ℕ) : Type 0 where
-  pub same_command : kind ≡ kind_of command
+  pub same_command : kind ≡ asked
   pub fields : AnswerFields answer kind code bytes
+
+-- the response is this answer to the command
+abbrev pub AnswersCommand : Command → Answer → TypeAndCommand → ℕ → List ℕ → Type 0
+AnswersCommand command answer kind code bytes = AnswersKind (kind_of command) answer kind code bytes

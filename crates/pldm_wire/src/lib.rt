@@ -36,7 +36,7 @@ mod version_data;
 mod window;
 
 pub use answer::Answer;
-pub use answer_reading::{AnswerFault, read_answer};
+pub use answer_reading::{AnswerFault, read_answer, read_answer_of};
 pub use answer_writing::{put_answer, put_response, write_answer};
 pub use assigned::{
     BASE, ERROR, ERROR_INVALID_DATA, ERROR_INVALID_LENGTH, ERROR_INVALID_PLDM_TYPE,
