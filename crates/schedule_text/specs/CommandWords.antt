@@ -127,3 +127,8 @@ command_named name words =
 abbrev pub command_of : List (List ℕ) → Result Command LineFaultKind
 command_of [] = Err Words
 command_of (name ∷ words) = command_named name words
+
+-- the command that the words of a line say, where it has some
+abbrev pub command_said : List (List ℕ) → Result (Option Command) LineFaultKind
+command_said [] = Ok None
+command_said (name ∷ words) = command_named name words >>= λ command. Ok (Some command)

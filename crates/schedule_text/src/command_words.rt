@@ -1,19 +1,37 @@
 //! The command that words say.
 
 ghost use Rattle.std.specs.Prelude.{◌≡◌};
-ghost use Rattle.schedule_text.specs.CommandWords.{bare, byte_command_named, byte_of, command_named, command_of, field_command_named, getpdr_of, id_command_named, id_of, part_in, setnum_of, setstate_of, size_in, sized_in, state_in, states_in, with_id};
+ghost use Rattle.schedule_text.specs.CommandWords.{bare, byte_command_named, byte_of, command_named, command_of, command_said, field_command_named, getpdr_of, id_command_named, id_of, part_in, setnum_of, setstate_of, size_in, sized_in, state_in, states_in, with_id};
+ghost use Rattle.line_words.specs.Lines.{said_words};
 ghost use Rattle.schedule_text.specs.Refusals.{kinds};
 ghost use Rattle.pldm_wire.specs.States.{IsComposite};
 ghost use Rattle.pldm_wire.specs.declared.command.Command.TheVariants.{GetSensorReading};
 
 use crate::word::Word;
-use crate::words::{UsualCommand, Words};
+use crate::words::{UsualCommand, Words, words_in};
 use crate::{Expected, Refusal};
 use arrayvec::ArrayVec;
 use pldm_wire::{
     Command, GET_FIRST_PART, GET_NEXT_PART, MAX_STATES, Number, SetStateField, Size, StateFields,
     VERSION_BYTES,
 };
+
+/// The command that a line says, given without its LF: the words of a schedule's `open` behind the endpoint ID. `None`
+/// where it says none, as a blank line and a comment.
+///
+/// # Errors
+///
+/// The first word that is refused, with its fault and what may stand there: a wrong word or count of words before a
+/// wrong number.
+pub fn command_in(line: &[u8]) -> Result<Option<Command>, Refusal<'_>>
+    ensures { kinds result ≡ command_said (said_words line.now) }
+{
+    let Some((name, mut words)) = words_in(line) else {
+        return Ok(None);
+    };
+    let command = read_named_command(&name, &mut words)?;
+    Ok(Some(command))
+}
 
 /// The command of these words: its name, and the words after it. A wrong word or count of words is
 /// reported before a wrong number.

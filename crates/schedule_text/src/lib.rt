@@ -15,6 +15,7 @@ mod steps;
 mod word;
 mod words;
 
+pub use command_words::command_in;
 pub use line::refusal_of;
 pub use line_fault::{LineFault, LineFaultKind};
 pub use moments::MomentsIter;
