@@ -433,7 +433,8 @@ struct needleoat_numeric_sensor {
     struct needleoat_entity entity;    /* what it measures */
     uint8_t init;                      /* how it is made ready: 0 it needs nothing */
     uint8_t has_auxiliary_names;       /* whether a record of its name goes with it: 0 no, 1 yes */
-    uint8_t rel;                       /* how the second unit goes with the first: 0 divided by it, 1 multiplied */
+    uint8_t rel;                       /* what the two units make (DSP0248, "rel"): 0 the first divided by the second,
+                                          1 multiplied by it. Any byte is written */
     uint8_t auxiliary_oem_unit_handle; /* the OEM unit that stands for the second unit, or 0 */
     uint8_t supported_thresholds;      /* bit 0 upper warning, 1 critical, 2 fatal, 3 to 5 the lower ones */
     uint8_t threshold_and_hysteresis_volatility; /* when these are lost */
@@ -547,9 +548,10 @@ enum needleoat_records_fault {
  * needleoat_endpoint_answer. A record is sent in parts of at most `request_count` bytes and 303. With the times of
  * GetPDRRepositoryInfo (timestamp104 of DSP0240) comes what the caller says.
  *
- * Otherwise it returns enum needleoat_records_fault and leaves `fields` as it was. The array is records where it has
- * nothing but whole ones, each with the header version 1 and a handle that is not 0 and no other's, and at most 1,000.
- * All of it is looked at in each call. An array without bytes is no record, and answered.
+ * Otherwise it returns the first of enum needleoat_records_fault that holds, and leaves `fields` as it was: of another
+ * command 1, whatever the array is. The array is records where it has nothing but whole ones, each with the header
+ * version 1 and a handle that is not 0 and no other's, and at most 1,000. All of it is looked at in each call with one
+ * of the two commands. An array without bytes is no record, and answered.
  */
 uint8_t needleoat_records_answer(const uint8_t *records, uint64_t length, const uint8_t update_time[13],
                                  const uint8_t oem_update_time[13], const struct needleoat_command *command,
@@ -720,8 +722,8 @@ enum needleoat_busy {
  * window is right for which requester.
  */
 struct needleoat_endpoint_settings {
-    uint8_t own;               /* its endpoint ID, 8 to 254. Where `assigned`, the static one that Reset goes back to,
-                                  or 0: there is none */
+    uint8_t own;               /* its endpoint ID, 8 to 254, which is static. Where `assigned`, the static one that
+                                  Reset goes back to, or 0: there is none */
     bool first_start;          /* true only where this endpoint never ran before */
     uint32_t keep_ms;          /* how long an answer is kept for copies, 1 to 60,000 */
     uint32_t sources;          /* how many other endpoints have room for answers at most, `window` for each */
@@ -802,7 +804,9 @@ struct needleoat_step {
  *   14  it completes a request that is no copy, its source has no room for answers, and `sources` others have
  *    1  a growth of memory was refused
  *
- * 9 and 14 do not come for a request that is refused in the busy time.
+ * 9 and 14 do not come for a request that is refused in the busy time. 4 does, before 'not ready': with
+ * NEEDLEOAT_BUSY_SETS a command that only asks may be pending in the busy time, and another request of its source and
+ * instance ID is refused with 4, also one that sets.
  *
  * Where a command is to be performed, its fields are in `command`, with the instance ID 0, and `handle` of the
  * step is its handle; otherwise `command` is as it was. Where a request is to be responded to, `handle` of the step is
@@ -811,11 +815,14 @@ struct needleoat_step {
  *
  * Where `answers_control`, a packet that is no message of PLDM, or is sent to or from the null endpoint ID, may be a
  * control request: its answer is in front of `packets[0]`, and goes to the physical address that the packet came from.
- * Set Endpoint ID is accepted for the own endpoint ID, where `assigned` for any, and as Reset where there is a static
- * one. Where that changes the endpoint ID, the endpoint has it from then on: the kept answers, the messages that have
- * begun and the pending commands are forgotten, as by needleoat_endpoint_restart; the busy time begins where it had an
- * endpoint ID before. A later copy of the request, less than `keep_ms` after it, gets the same answer and changes
- * nothing. While there is no endpoint ID every message of PLDM is dropped.
+ * Set Endpoint ID is accepted for the present endpoint ID, where `assigned` for any from 8 to 254, and as Reset where
+ * there is a static one: so also where not `assigned`, and it then changes nothing. Where an accepted one changes the
+ * endpoint ID, the endpoint has the new one from then on: the kept answers, the messages that have begun and the
+ * pending commands are forgotten, as by needleoat_endpoint_restart; the busy time begins where it had an endpoint ID
+ * before. A later copy of an accepted one (the same bytes of the same source, less than `keep_ms` after it) gets the
+ * same answer and changes nothing, also where another was accepted between: where 10 was set and then 11, a copy of the
+ * first is answered 'accepted, 10', and the endpoint ID stays 11. While there is no endpoint ID every message of PLDM
+ * is dropped.
  */
 struct needleoat_step needleoat_endpoint_receive(struct needleoat_endpoint *endpoint, uint64_t now_ms,
                                                  const uint8_t *packet, uint64_t length,
@@ -829,22 +836,26 @@ struct needleoat_step needleoat_endpoint_receive(struct needleoat_endpoint *endp
 uint8_t needleoat_endpoint_eid(struct needleoat_endpoint *endpoint);
 
 /*
- * Hands in the answer to the command that is pending under this handle, and gives the packets of it:
- * NEEDLEOAT_STEP_ANSWERED, or refused with the first of 3, 10, 6 and 5. They go to `handle->source`. 10 comes
- * exactly where nothing is pending under the three numbers of the handle: it was answered, or forgotten by a
- * restart. 5 comes for each answer where a request is pending there that was handed on as bytes. The answer is
- * the one that needleoat_answer_write writes: 6 comes exactly where that call writes nothing, 5 where `pldm_type`
- * or `command` is another than the command's, also where `code` is not 0. The instance ID in `answer` is not looked
- * at beyond that; the request's is sent. It takes no memory. Where it is refused with 6 or 5, the command is still
- * pending. Where `window` other instance IDs of the source had fresh requests since, the packets are the same, and
- * the answer is not kept.
+ * Hands in the answer to the command that is pending under this handle, and gives the packets of it, which go to
+ * `handle->source`: NEEDLEOAT_STEP_ANSWERED, or refused with the first of these.
+ *
+ *    3  there is nothing behind the handle of the endpoint
+ *   10  nothing is pending under the three numbers of `handle`: it was answered, or forgotten by a restart
+ *    5  what is pending there was handed on as bytes, whatever the answer is
+ *    6  needleoat_answer_write would write nothing for the answer
+ *    5  `pldm_type` or `command` is another than the command's, also where `code` is not 0
+ *
+ * The answer is the one that needleoat_answer_write writes, with the request's instance ID: that in `answer` is not
+ * looked at beyond its range. It takes no memory. Where it is refused with 6 or 5, what is pending still is. Where
+ * `window` other instance IDs of the source had fresh requests since, the packets are the same, and the answer is not
+ * kept.
  */
 struct needleoat_step needleoat_endpoint_answer(struct needleoat_endpoint *endpoint,
                                                 const struct needleoat_command_handle *handle,
                                                 const struct needleoat_answer *answer,
                                                 uint8_t packets[NEEDLEOAT_PACKETS][NEEDLEOAT_PACKET_BYTES]);
 
-/* A request that was handed on as bytes. */
+/* A request that is pending, as bytes. */
 struct needleoat_request {
     uint8_t pldm_type; /* 0 to 63 */
     uint8_t command;   /* its command's number in that type */
@@ -853,8 +864,8 @@ struct needleoat_request {
 };
 
 /*
- * Puts the request that is pending under this handle into `request`, and returns true; false, with `request` as it was,
- * where none is. It takes no memory.
+ * Puts the request that is pending under this handle into `request`, and returns true, also where it has a command;
+ * false, with `request` as it was, where none is. It takes no memory.
  */
 bool needleoat_endpoint_request(struct needleoat_endpoint *endpoint, const struct needleoat_command_handle *handle,
                                 struct needleoat_request *request);
@@ -876,6 +887,11 @@ struct needleoat_step needleoat_endpoint_answer_bytes(struct needleoat_endpoint 
  * begun and the pending commands are forgotten, and the busy time begins: for the keeping time from then on nothing is
  * performed, or nothing that sets, as `busy` of the settings says. An answer to one of those commands is refused with
  * 10 from then on.
+ *
+ * The endpoint ID stays, also an assigned one: DSP0236 has a device keep it over an internal reset, and the bus owner
+ * goes on asking there. So does what is known of accepted Set Endpoint ID: a copy of one still gets its answer and
+ * changes nothing, as needleoat_endpoint_receive says. To be without an endpoint ID again, free the endpoint while
+ * nothing is pending, and make it anew.
  */
 uint8_t needleoat_endpoint_restart(struct needleoat_endpoint *endpoint, uint64_t now_ms);
 

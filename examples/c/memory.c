@@ -1,8 +1,9 @@
 /*
  * Prints how many bytes of heap the ends take, and ends with status 1 where an endpoint takes more than docs/C.md says,
- * where an open message that has ended leaves more than a message's room and the lists of four, for the next ones, or
- * where some are left at the end. Its allocator has the size of each block in front of it. It copies a block that grows, so for
- * a moment both count.
+ * where an open message that has ended leaves more than a message's room and the lists of four, for the next ones,
+ * where a call asks for memory that needs none, where a restart keeps what it forgets, or where some is left at the
+ * end. Its allocator has the size of each block in front of it. It copies a block that grows, so for a moment both
+ * count.
  */
 #include "needleoat.h"
 #include <stddef.h>
@@ -14,13 +15,14 @@ enum { FRONT = 16, MANY_SOURCES = 4, MANY_COMMANDS = 5 };
 /* the room of a message, and that of the lists of four: of each a key of 3 bytes, a number of 2 and an entry of 16 */
 enum { ROOM = 328, LISTS = 4 * (3 + 2 + 16) };
 
-static size_t in_use, most;
+static size_t in_use, most, growths;
 
 struct needleoat_block rattle_alloc(uint64_t size, uint64_t align) {
     static uint8_t some_byte;
     uint8_t *at = size <= SIZE_MAX / 2 && align <= _Alignof(max_align_t) ? malloc(FRONT + (size_t)size) : NULL;
     if (!at) return (struct needleoat_block){false, &some_byte};
     *(size_t *)(void *)at = (size_t)size;
+    growths++;
     in_use += (size_t)size;
     if (in_use > most) most = in_use;
     return (struct needleoat_block){true, at + FRONT};
@@ -144,6 +146,9 @@ static bool is_within(const struct load *load, size_t bound) {
     return well && full <= bound && most <= bound + OPEN_MESSAGE && in_use == 0;
 }
 
+/* A command pending beside others takes its place and its request, here of 4 bytes. */
+enum { COMMAND_MOST = 92 };
+
 /* Prints what an endpoint takes step by step. */
 static bool print_steps(void) {
     static const struct needleoat_answer tid = {.pldm_type = NEEDLEOAT_BASE, .command = NEEDLEOAT_GET_TID, .tid = 7};
@@ -157,7 +162,9 @@ static bool print_steps(void) {
         printf("heap of an endpoint with answers for %d sources %zu\n", i + 1, in_use);
     }
     for (uint8_t i = 1; i <= MANY_COMMANDS; i++) {
+        size_t before_it = in_use;
         if (get_tid(10, i).kind != NEEDLEOAT_STEP_PERFORM) return false;
+        if (1 < i && i < MANY_COMMANDS && in_use > before_it + COMMAND_MOST) return false;
         printf("heap of an endpoint with %d commands too %zu\n", i, in_use);
     }
     if (get_tid(10, MANY_COMMANDS + 1).reason != NEEDLEOAT_TOO_MANY_COMMANDS) return false;
@@ -170,6 +177,72 @@ static bool print_steps(void) {
     if (in_use != before + ROOM + LISTS) return false;
     needleoat_endpoint_free(&endpoint);
     return true;
+}
+
+/* Whether this asked for no memory since so many growths. */
+static bool none_since(size_t before, const char *what, bool well) {
+    if (growths != before) printf("memory is asked for by %s\n", what);
+    return well && growths == before;
+}
+
+/* Whether memory is asked for only by a source's first request, by what is handed out, and by a message that begins. */
+static bool takes_only_there(void) {
+    static const struct needleoat_answer tid = {.pldm_type = NEEDLEOAT_BASE, .command = NEEDLEOAT_GET_TID, .tid = 7};
+    static const struct needleoat_answer other = {.pldm_type = NEEDLEOAT_BASE, .command = NEEDLEOAT_SET_TID};
+    static const uint8_t refused[] = {1, 0x83, NEEDLEOAT_BASE, 0x3f};
+    struct needleoat_request request;
+    needleoat_endpoint_new(&settings, 0, &endpoint);
+    struct needleoat_step step = get_tid(10, 0);
+    bool well = step.kind == NEEDLEOAT_STEP_PERFORM;
+    size_t held = in_use, before = growths;
+    well = none_since(before, "a repeat of a pending one", get_tid(10, 0).reason == NEEDLEOAT_BEING_PERFORMED) && well;
+    bool is_read = needleoat_endpoint_request(&endpoint, &step.handle, &request);
+    well = none_since(before, "a request read back", is_read) && well;
+    well = none_since(before, "an endpoint ID", needleoat_endpoint_eid(&endpoint) == 9) && well;
+    struct needleoat_step sent = needleoat_endpoint_answer(&endpoint, &step.handle, &other, packets);
+    well = none_since(before, "another answer", sent.reason == NEEDLEOAT_NOT_ITS_ANSWER) && well;
+    sent = needleoat_endpoint_answer(&endpoint, &step.handle, &tid, packets);
+    well = none_since(before, "an answer", sent.kind == NEEDLEOAT_STEP_ANSWERED) && well;
+    sent = get_tid(10, 0);
+    well = none_since(before, "a copy", sent.kind == NEEDLEOAT_STEP_ANSWERED && !sent.fresh) && well;
+    sent = receive(10, refused, sizeof refused);
+    well = none_since(before, "a refused request", sent.kind == NEEDLEOAT_STEP_ANSWERED && sent.fresh) && well;
+    sent = receive_packet(10, 0, two_packets, sizeof two_packets, 1);
+    well = none_since(before, "a dropped packet", sent.kind == NEEDLEOAT_STEP_DROPPED) && well;
+    well = get_tid(10, 1).kind == NEEDLEOAT_STEP_PERFORM && in_use <= held && well;
+    needleoat_endpoint_free(&endpoint);
+    return well && in_use == 0;
+}
+
+/* Whether a restart gives back all but what an endpoint takes at first, and the list of four messages that began. */
+static bool restart_gives_back(void) {
+    needleoat_endpoint_new(&settings, 0, &endpoint);
+    size_t at_first = in_use;
+    bool well = get_tid(10, 0).kind == NEEDLEOAT_STEP_PERFORM && begin(0);
+    well = needleoat_endpoint_restart(&endpoint, 0) == 0 && well;
+    printf("heap of an endpoint after a restart %zu\n", in_use);
+    well = in_use <= at_first + 4 * 3 && well;
+    needleoat_endpoint_free(&endpoint);
+    return well && in_use == 0;
+}
+
+/* Whether only the first 32 requests of a requester ask for memory. */
+static bool requester_takes_32(void) {
+    static const uint8_t message[] = {1, 0x80, NEEDLEOAT_BASE, NEEDLEOAT_GET_TID};
+    static struct needleoat_due due;
+    bool well = true;
+    needleoat_requester_new(&requester_settings, &requester);
+    printf("heap of a requester at first %zu\n", in_use);
+    size_t before = growths;
+    for (uint64_t i = 0; i < 64; i++) {
+        if (i == 32) before = growths;
+        well = needleoat_requester_open(&requester, i * 2000, message, sizeof message).refusal == 0 && well;
+        well = needleoat_requester_tick(&requester, i * 2000 + 1999, &due) == 0 && due.given_up_count == 1 && well;
+    }
+    well = none_since(before, "request 33 of a requester", well);
+    printf("heap of a requester with 32 requests %zu\n", in_use);
+    needleoat_requester_free(&requester);
+    return well && in_use == 0;
 }
 
 /* Prints what a source with answers takes, by the window. */
@@ -211,8 +284,8 @@ int main(void) {
     well = print_windows() && well;
     for (size_t i = 0; i < sizeof loads / sizeof loads[0]; i++)
         well = is_within(&loads[i], i == 0 ? SMALL_MOST : bound_of(&loads[i])) && well;
-    needleoat_requester_new(&requester_settings, &requester);
-    printf("heap of a requester at first %zu\n", in_use);
-    needleoat_requester_free(&requester);
+    well = takes_only_there() && well;
+    well = restart_gives_back() && well;
+    well = requester_takes_32() && well;
     return !well || in_use != 0;
 }

@@ -1,18 +1,16 @@
 -- What becomes of a packet at an endpoint that also answers control messages: the endpoint takes it first; where it
 -- drops it, the control responder may answer it, and where that assigns an endpoint ID, both have it (DSP0236, "MCTP
 -- control protocol").
-use Rattle.std.specs.FinMap as map
 use Rattle.std.specs.Prelude.{◌≡◌, ℕ, ◌<◌, ◌==◌, MatchBool, List, length, Option, None, Some, option_and_then}
 use Rattle.mctp_control.specs.Dropped.{control_left, control_reply}
 use Rattle.mctp_control.specs.declared.control_responder.ControlResponder.{ControlResponder}
 use Rattle.mctp_packet.specs.declared.reason.Reason.{Reason}
-use Rattle.pldm_endpoint.specs.Receiving.{HasReceived, HasSameSettings}
+use Rattle.pldm_endpoint.specs.Receiving.{HasForgotten, HasReceived}
 use Rattle.pldm_endpoint.specs.Stepping.{StepHasReply, stepping}
 use Rattle.pldm_endpoint.specs.TwoSteps.{EndpointView, held_in}
 use Rattle.pldm_endpoint.specs.declared.step.Step.{Step}
 use Rattle.pldm_endpoint.specs.declared.step.Step.TheVariants as step
 use Rattle.pldm_responder.specs.ResponderStates.{IsHeld}
-use Rattle.pldm_responder.specs.Slots.{source_count}
 use Rattle.pldm_responder.specs.Steps.{assigned_held}
 use Rattle.pldm_responder.specs.declared.outcome.Outcome.TheVariants as outcome
 use Rattle.bus_endpoint.specs.BusViews.{BusView}
@@ -48,13 +46,10 @@ abbrev pub eid_after : Option ControlResponder → ℕ → Option Reason → Lis
 eid_after control now None packet = None
 eid_after control now (Some reason) packet = eid_in (control_after control now (Some reason) packet)
 
--- an endpoint got this endpoint ID at a moment: nothing is pending, and no source has room for answers
+-- an endpoint got this endpoint ID at a moment: what had begun, was kept and was pending is forgotten
 pub record IsAssigned (old : EndpointView) (now eid : ℕ) (new : EndpointView) : Type 0 where
   pub held : IsHeld (held_in new) (assigned_held (held_in old) now eid)
-  pub idle : new.pending ≡ map.empty
-  pub count : new.count ≡ old.count
-  pub no_rows : source_count new.end.rows ≡ 0
-  pub settings : HasSameSettings new old
+  pub forgotten : HasForgotten new old
 
 -- it has this endpoint ID from then on; where it had it already, nothing has changed
 abbrev pub IsInStep : EndpointView → ℕ → Option ℕ → EndpointView → Type 0

@@ -54,6 +54,7 @@ received old new now bytes reply step come = record {
   endpoint = come.endpoint;
   taken = record {
     held = come.received.held;
+    begun = come.received.begun;
     pending = come.received.pending;
     count = come.received.count;
     room = come.received.room;

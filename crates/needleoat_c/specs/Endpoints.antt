@@ -18,7 +18,7 @@ use Rattle.pldm_wire.specs.declared.handed_on.HandedOn.{HandedOn}
 use Rattle.pldm_wire.specs.declared.limits.TheConstants.{MAX_RESPONSE_DATA}
 use Rattle.pldm_responder.specs.Asked.{Given}
 use Rattle.pldm_responder.specs.Asked as given
-use Rattle.pldm_responder.specs.Looking.{ended_by}
+use Rattle.pldm_responder.specs.Looking.{end_after, ended_by}
 use Rattle.pldm_responder.specs.OpenOrder.{ended_held}
 use Rattle.pldm_responder.specs.Answering.{answering}
 use Rattle.pldm_responder.specs.Ends.{eid_or_null, has_row}
@@ -48,6 +48,7 @@ use Rattle.pldm_endpoint.specs.declared.step.Step.TheVariants.{Perform, Respond,
 use Rattle.bus_endpoint.specs.Coming.{IsInStep, control_after, control_answer, dropped_for, eid_after}
 use Rattle.needleoat_forms.specs.Answers.{answer_in}
 use Rattle.needleoat_forms.specs.Commands.{command_in}
+use Rattle.needleoat_forms.specs.Written.{HasFront}
 use Rattle.needleoat_forms.specs.declared.answer.AnswerFields.{AnswerFields}
 use Rattle.needleoat_forms.specs.declared.command.CommandFields.{CommandFields}
 use Rattle.needleoat_c.specs.EndpointHandles.{Inside}
@@ -118,7 +119,8 @@ abbrev pub started : ℕ → HandedOn → Keeping → Bool → ℕ → Responder
 started own handed k true now = record (held_at_first own (busy_with handed k.busy) k.window k.keep tt) { last = now }
 started own handed k false now = restarted_held (held_at_first own (busy_with handed k.busy) k.window k.keep tt) now
 
--- an endpoint was made with these settings at a moment: no command is pending, and no source has room for answers
+-- an endpoint was made with these settings at a moment: no command is pending, no message has begun, and no source has
+-- room for answers
 pub record IsStarted (s : EndpointSettings) (now : ℕ) (new : EndpointView) : Type 0 where
   pub held :
       IsHeld (held_in new) (started (eid_or_null (first_eid s)) (handed_in s) (keeping_in s) s.first_start now)
@@ -129,6 +131,7 @@ pub record IsStarted (s : EndpointSettings) (now : ℕ) (new : EndpointView) : T
   pub max_pending : new.max_pending ≡ s.pending_commands
   pub idle : new.pending ≡ map.empty
   pub count : new.count ≡ 0
+  pub begun : new.end.begun ≡ []
   pub no_rows : source_count new.end.rows ≡ 0
 
 -- with what answers its control messages
@@ -259,10 +262,12 @@ abbrev pub ReportsPacket : ℕ → List ℕ → StepReport → List (List ℕ) �
 ReportsPacket now bytes r rooms None = IsRefused NOTHING_THERE r
 ReportsPacket now bytes r rooms (Some inside) = ReportsPacketIn now bytes r rooms inside
 
--- what an endpoint holds that received a packet, what is pending there, and which sources have room for answers; where
--- the packet begins a message for which there was no room, the oldest that was open has ended
+-- what an endpoint holds that received a packet, in which order its open messages began, what is pending there, and
+-- which sources have room for answers; where the packet begins a message for which there was no room, the oldest that
+-- was open has ended
 pub record IsTaken (now : ℕ) (bytes : List ℕ) (old new : EndpointView) : Type 0 where
   pub held : IsHeld (held_in new) (ended_held (ended_by old.end bytes) (held_after old.handed_on (held_in old) now bytes))
+  pub begun : new.end.begun ≡ (end_after old.end now bytes).begun
   pub pending : new.pending ≡ pending_after old.handed_on (held_in old) now bytes old.pending old.count
   pub count : new.count ≡ count_after old.handed_on (held_in old) now bytes old.count
   pub room : AreRowsAfter (held_in old) old.end.rows (received_arrival (held_in old) now bytes) new.end.rows
@@ -326,34 +331,45 @@ abbrev pub answered_by : Result Answer ℕ → Result Given ℕ
 answered_by (Ok answer) = Ok (given.Answered answer)
 answered_by (Err number) = Err number
 
--- it goes to the source of the request, on the tag of that one's packets
-abbrev pub ReportsGiven : HandedOn → Result Given ℕ → Option PendingCommand → ℕ → ℕ → StepReport → List (List ℕ) → Type 0
-ReportsGiven handed (Ok given) None own source r rooms = ⊥
-ReportsGiven handed (Ok given) (Some a) own source r rooms =
-    ReportsOutcome (outcome_of_answer (hands_on handed) own source a.tag a.request given) r rooms
-ReportsGiven handed (Err number) pending own source r rooms = IsRefused number r
+-- what comes of it, with the packets of `reply`
+abbrev pub with_packets : List ℕ → Result MessageOutcome ℕ → Result Outcome ℕ
+with_packets reply (Ok taken) = Ok (answering reply taken)
+with_packets reply (Err number) = Err number
+
+-- what comes of what is given for a request: it goes to the request's source, on the tag of that one's packets
+abbrev pub outcome_for : HandedOn → ℕ → ℕ → PendingCommand → Result Given ℕ → Result Outcome ℕ
+outcome_for handed own source a (Ok given) = Ok (outcome_of_answer (hands_on handed) own source a.tag a.request given)
+outcome_for handed own source a (Err number) = Err number
+
+-- the same, of what is pending, if something is
+abbrev pub outcome_at : HandedOn → ℕ → ℕ → Option PendingCommand → Result Given ℕ → Result Outcome ℕ
+outcome_at handed own source None given = Err NOT_PENDING
+outcome_at handed own source (Some a) given = outcome_for handed own source a given
+
+-- the same, of what is pending under a handle
+abbrev pub outcome_under : HandleFields → Inside → Result Given ℕ → Result Outcome ℕ
+outcome_under handle inside given =
+    outcome_at inside.endpoint.handed_on inside.endpoint.end.own handle.source (pending_under handle inside) given
+
+-- what comes of an answer
+abbrev pub answer_outcome : HandleFields → AnswerFields → Inside → Result Outcome ℕ
+answer_outcome handle fields inside =
+    outcome_under handle inside (answered_by (given_for (pending_under handle inside) fields))
+
+-- the report of what came of what was given, or of why it was refused
+abbrev pub ReportsGiven : Result Outcome ℕ → StepReport → List (List ℕ) → Type 0
+ReportsGiven (Ok outcome) r rooms = ReportsOutcome outcome r rooms
+ReportsGiven (Err number) r rooms = IsRefused number r
 
 abbrev pub ReportsAnswer : HandleFields → AnswerFields → StepReport → List (List ℕ) → Option Inside → Type 0
 ReportsAnswer handle fields r rooms None = IsRefused NOTHING_THERE r
-ReportsAnswer handle fields r rooms (Some inside) =
-    ReportsGiven inside.endpoint.handed_on (answered_by (given_for (pending_under handle inside) fields))
-    (pending_under handle inside) inside.endpoint.end.own handle.source r rooms
-
--- the report of an answer that was handed in: of what it gave, with the packets of `reply`, or of why it was refused
-abbrev pub ReportsHandedIn : List ℕ → Result MessageOutcome ℕ → StepReport → List (List ℕ) → Type 0
-ReportsHandedIn reply (Ok taken) r rooms = ReportsOutcome (answering reply taken) r rooms
-ReportsHandedIn reply (Err number) r rooms = IsRefused number r
-
--- whatever the report of this is, it is one of the answer
-abbrev pub IsReportedSo : List ℕ → Result MessageOutcome ℕ → HandleFields → AnswerFields → Inside → Type 0
-IsReportedSo reply given handle fields inside =
-    (r : StepReport) (rooms : List (List ℕ))
-    → ReportsHandedIn reply given r rooms → ReportsAnswer handle fields r rooms (Some inside)
+ReportsAnswer handle fields r rooms (Some inside) = ReportsGiven (answer_outcome handle fields inside) r rooms
 
 -- it is kept for that request, from its moment on, which is no longer pending
 pub record IsAnswered (handle : CommandHandle) (given : Given) (old new : EndpointView) : Type 0 where
   pub held :
       IsHeld (held_in new) (answered_held old.handed_on (held_in old) handle given (pending_at old.pending handle))
+  pub begun : new.end.begun ≡ old.end.begun
   pub pending : new.pending ≡ map.remove old.pending (request_key handle.source handle.id)
   pub count : new.count ≡ old.count
   pub room : (source : ℕ) → has_row new.end.rows source ≡ has_row old.end.rows source
@@ -372,17 +388,16 @@ IsLeftByAnswer handle fields old new =
 
 -- ---- responses to requests that were handed on as bytes ----
 
--- the fields are those of this request
-pub record AreRequest (request : Request) (fields : RequestFields) : Type 0 where
-  pub pldm_type : fields.pldm_type ≡ request.kind.pldm_type
-  pub command : fields.command ≡ request.kind.command
-  pub length_is : fields.length ≡ length request.rest
-  pub bytes : take fields.length fields.«data» ≡ request.rest
+-- the fields are those of this request: its data is in front, and what follows is as it was
+pub record AreRequest (request : Request) (old new : RequestFields) : Type 0 where
+  pub pldm_type : new.pldm_type ≡ request.kind.pldm_type
+  pub command : new.command ≡ request.kind.command
+  pub front : HasFront request.rest new.length old.«data» new.«data»
 
 -- where something is pending, the fields are those of its request; else they are as before
 abbrev pub HasRequest : Bool → Option PendingCommand → RequestFields → RequestFields → Type 0
 HasRequest found None old new = (found ≡ false) × (new ≡ old)
-HasRequest found (Some a) old new = (found ≡ true) × AreRequest (request_at a.request) new
+HasRequest found (Some a) old new = (found ≡ true) × AreRequest (request_at a.request) old new
 
 -- the response to a request that was handed on, or why it is none: that of a command is none, and one is too long
 abbrev pub response_to_command : Option Command → ℕ → List ℕ → Result Given ℕ
@@ -394,17 +409,14 @@ abbrev pub response_for : Option PendingCommand → ℕ → List ℕ → Result 
 response_for None code bytes = Err NOT_PENDING
 response_for (Some a) code bytes = response_to_command a.command code bytes
 
+-- what comes of a response
+abbrev pub response_outcome : HandleFields → ℕ → List ℕ → Inside → Result Outcome ℕ
+response_outcome handle code bytes inside =
+    outcome_under handle inside (response_for (pending_under handle inside) code bytes)
+
 abbrev pub ReportsResponse : HandleFields → ℕ → List ℕ → StepReport → List (List ℕ) → Option Inside → Type 0
 ReportsResponse handle code bytes r rooms None = IsRefused NOTHING_THERE r
-ReportsResponse handle code bytes r rooms (Some inside) =
-    ReportsGiven inside.endpoint.handed_on (response_for (pending_under handle inside) code bytes)
-    (pending_under handle inside) inside.endpoint.end.own handle.source r rooms
-
--- whatever the report of this is, it is one of the response
-abbrev pub IsResponseReportedSo : List ℕ → Result MessageOutcome ℕ → HandleFields → ℕ → List ℕ → Inside → Type 0
-IsResponseReportedSo reply given handle code bytes inside =
-    (r : StepReport) (rooms : List (List ℕ))
-    → ReportsHandedIn reply given r rooms → ReportsResponse handle code bytes r rooms (Some inside)
+ReportsResponse handle code bytes r rooms (Some inside) = ReportsGiven (response_outcome handle code bytes inside) r rooms
 
 abbrev pub IsLeftByResponse : HandleFields → ℕ → List ℕ → Inside → Inside → Type 0
 IsLeftByResponse handle code bytes old new =

@@ -147,11 +147,18 @@ opened_by now request refusal held = if refusal == 0 then with_opened now (comma
 
 -- ---- ticks ----
 
+-- these numbers stand in front, and this is how many they are
+abbrev pub AreInFront : List ℕ → ℕ → List ℕ → Type 0
+AreInFront numbers count room = (count ≡ length numbers) × (take count room ≡ numbers)
+
 -- the requests that are due stand in front
+pub record AreDue (now : ℕ) (held : RequesterState) (due : DueReport) : Type 0 where
+  pub again : AreInFront (again_at held now) due.again_count due.again
+  pub given_up : AreInFront (given_up_at held now) due.given_up_count due.given_up
+
 abbrev pub ReportsDue : ℕ → DueReport → Option RequesterState → Type 0
 ReportsDue now due None = ⊥
-ReportsDue now due (Some held) =
-    (take due.again_count due.again ≡ again_at held now) × (take due.given_up_count due.given_up ≡ given_up_at held now)
+ReportsDue now due (Some held) = AreDue now held due
 
 abbrev pub ticked_by : ℕ → ℕ → RequesterState → RequesterState
 ticked_by now refusal held = if refusal == 0 then ticked_held held now else held

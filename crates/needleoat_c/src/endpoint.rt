@@ -7,7 +7,7 @@ ghost use Rattle.pldm_wire.specs.Commands.{kind_of};
 ghost use Rattle.pldm_responder.specs.Answering.{answering};
 ghost use Rattle.pldm_endpoint.specs.RequestKeys.{pending_at};
 ghost use Rattle.pldm_endpoint.specs.TwoSteps.{IsOfCommand, held_in};
-ghost use Rattle.needleoat_c.specs.Endpoints.{AreOf, ArePackets, HasCommand, HasRequest, IsInFront, IsLeftByAnswer, IsLeftByPacket, IsLeftByResponse, IsLeftByRestart, IsMade, IsPerform, IsReportedSo, IsResponseReportedSo, IsStarted, ReportsControl, ReportsHandedIn, ReportsOutcome, ReportsPacketIn, ReportsStep, given_to, is_next, number_of_refusal, pending_under, refusal_at, unanswered};
+ghost use Rattle.needleoat_c.specs.Endpoints.{AreOf, ArePackets, HasCommand, HasRequest, IsInFront, IsLeftByAnswer, IsLeftByPacket, IsLeftByResponse, IsLeftByRestart, IsMade, IsPerform, IsStarted, ReportsControl, ReportsGiven, ReportsOutcome, ReportsPacketIn, ReportsStep, answer_outcome, given_to, is_next, number_of_refusal, pending_under, refusal_at, response_outcome, unanswered, with_packets};
 ghost use Rattle.needleoat_c.specs.Settings.{IsSetup, first_eid, keeping_in};
 ghost use Rattle.pldm_endpoint.specs.Stepping.{stepping};
 
@@ -216,7 +216,7 @@ pub(crate) fn answer(
     fields: &AnswerFields,
     reply: &mut Body,
 ) -> Result<MessageOutcome, u8>
-    ensures report { IsReportedSo reply.new.items result handle.now fields.now endpoint.old }
+    ensures outcome { with_packets reply.new.items result ≡ answer_outcome handle.now fields.now endpoint.old }
     ensures left { IsLeftByAnswer handle.now fields.now endpoint.old endpoint.new }
 {
     let Some(handle) = handle.handle() else {
@@ -272,7 +272,8 @@ pub(crate) fn answer_bytes(
     rest: &[u8],
     reply: &mut Body,
 ) -> Result<MessageOutcome, u8>
-    ensures report { IsResponseReportedSo reply.new.items result handle.now code rest.now endpoint.old }
+    ensures outcome { with_packets reply.new.items result
+        ≡ response_outcome handle.now code rest.now endpoint.old }
     ensures left { IsLeftByResponse handle.now code rest.now endpoint.old endpoint.new }
 {
     let Some(handle) = handle.handle() else {
@@ -292,7 +293,7 @@ pub(crate) fn report(
     reply: &Body,
     packets: &mut [[u8; MAX_PACKET_BYTES]; MAX_PACKETS],
 ) -> StepReport
-    ensures { ReportsHandedIn reply.now.items given.now result packets.new }
+    ensures { ReportsGiven (with_packets reply.now.items given.now) result packets.new }
 {
     match given {
         Ok(taken) => report_of(taken, reply, packets),

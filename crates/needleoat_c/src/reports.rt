@@ -231,10 +231,10 @@ pub struct RequestFields {
 const _: () = prove!(size_of::<RequestFields>() == 324);
 
 impl RequestFields {
-    /// Takes the type, the command and the data of this request.
+    /// Takes the type, the command and the data of this request. What follows the data is as it was.
     pub(crate) fn set(&mut self, request: &RequestRef<'_>)
         requires { length request.now.rest ≤ MAX_REQUEST_DATA }
-        ensures { AreRequest request.now self.new }
+        ensures { AreRequest request.now self.old self.new }
     {
         let (kind, data) = (request.kind(), request.data());
         self.pldm_type = kind.pldm_type;

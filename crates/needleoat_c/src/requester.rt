@@ -1,12 +1,12 @@
 //! The work of each call on the requester behind a handle.
 
-ghost use Rattle.std.specs.Prelude.{◌≡◌, ◌≢◌, ◌<◌, ◌≤◌, Some, IfSome, is_some, length, take, option_and_then, option_map};
+ghost use Rattle.std.specs.Prelude.{◌≡◌, ◌≢◌, ◌<◌, ◌≤◌, Some, IfSome, is_some, length, option_and_then, option_map};
 ghost use Rattle.std.specs.Option.{option_copied};
 ghost use Rattle.pldm_requester.specs.Slots.{held_of};
 ghost use Rattle.pldm_requester.specs.RequestProgress.{progress_in_status};
 ghost use Rattle.pldm_requester.specs.Steps.{IsHeld};
 ghost use Rattle.needleoat_forms.specs.Written.{IsWritten};
-ghost use Rattle.needleoat_c.specs.Requesters.{ReportsDue, ReportsGot, ReportsOpening, ReportsPacketIn, ReportsProgress, command_in, fault_number, fitting, is_next, opened_by, opening_in, packet_of, received_by, refusal_at, progress_of, ticked_by};
+ghost use Rattle.needleoat_c.specs.Requesters.{AreInFront, ReportsDue, ReportsGot, ReportsOpening, ReportsPacketIn, ReportsProgress, command_in, fault_number, fitting, is_next, opened_by, opening_in, packet_of, received_by, refusal_at, progress_of, ticked_by};
 
 use crate::kinds::{
     RECEIVING_ANSWERED, RECEIVING_DROPPED, RECEIVING_PARTIAL, RECEIVING_REFUSED, STATUS_ANSWERED,
@@ -98,7 +98,7 @@ pub(crate) fn tick(requester: &mut Requester, now_ms: u64, due: &mut DueReport) 
 /// Puts numbers in front, and returns how many there are.
 fn put_numbers(room: &mut [u64; MAX_OPEN], numbers: &[u64]) -> u32
     requires { length numbers.now ≤ MAX_OPEN }
-    ensures { take result room.new ≡ numbers.now }
+    ensures { AreInFront numbers.now result room.new }
 {
     room[..numbers.len()].copy_from_slice(numbers);
     numbers.len() as u32

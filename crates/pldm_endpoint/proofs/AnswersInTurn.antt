@@ -1,5 +1,5 @@
 -- An endpoint over any list of calls is a responder whose platform gives the answers that the device gave, once the
--- device has answered all that it performs.
+-- device has answered all that it performs; of its parts one by one.
 use Rattle.std.specs.FinMap as map
 use Rattle.std.proofs.Common.{◌≡◌, ℕ, ◌+◌, ◌⊎◌, inl, inr, Bool, true, false, cond, not, ◌&&◌, ◌==◌, List, [], ◌∷◌, length, Option, Some, None, IfSome, Result, Ok, Err, if◌then◌else◌, refl, sym, ap, ◌∙◌, subst, arith}
 use Rattle.std.specs.Prelude.{map as list_map, option_map, take}
@@ -40,10 +40,11 @@ use Rattle.pldm_responder.proofs.RecentFirst.{by_test, dropped, found_in_map, re
 use Rattle.pldm_responder.proofs.ServedRequests.{performed_outcome}
 use Rattle.pldm_responder.proofs.WithoutEid.{drops_without_eid}
 use Rattle.pldm_endpoint.specs.RequestKeys.{PendingCommands, request_key, request_key_cmp, request_key_of}
-use Rattle.pldm_endpoint.specs.Histories.{AnsweredInTurn, AreUnderTheirIds, AskedLooksBack, AssignedInTurn, EndedInTurn, IsFree, IsLeftInTurn, NewInTurn, ReceivedInTurn, RestartedInTurn, SameInTurn, TwoStepsAreOne, UnaskedLooksBack, entry_to_be, in_turn, to_be}
+use Rattle.pldm_endpoint.specs.Histories.{AreUnderTheirIds, TwoStepsAreOne, entry_once_given, in_turn}
 use Rattle.pldm_endpoint.specs.TwoSteps.{arrival_tasks, asked_now, command_at, count_after, entry_given, held_after, kept_by, pending_after, pending_by, request_in, stepped, unasked, waiting, with_waiting}
 use Rattle.pldm_endpoint.specs.declared.pending_commands.PendingCommand.{PendingCommand}
 use Rattle.pldm_endpoint.specs.declared.pending_commands.RequestKey.{RequestKey}
+use Rattle.pldm_endpoint.proofs.ByParts.{AnsweredByParts, AskedLooksBack, AssignedByParts, EndedByParts, IsFree, IsLeftByParts, NewByParts, ReceivedByParts, RestartedByParts, SameByParts, UnaskedLooksBack, to_be}
 use Rattle.pldm_endpoint.proofs.KeyOrder.{request_keys_total}
 use Rattle.pldm_endpoint.proofs.PendingGlue.{numbered_is, one_key, whole_is}
 
@@ -80,7 +81,7 @@ not_one a b apart = by (eq_by_cmp request_key_cmp a b) refl
     by false is = refl
 
 -- ---- what is kept, once the device has answered
-number_by : (handed : HandedOn) (answers : ℕ → Given) (o : Option PendingCommand) (e : Entry) → IfSome o (λ a. id_at a.request ≡ id_in e) → id_in (entry_to_be handed answers o e) ≡ id_in e
+number_by : (handed : HandedOn) (answers : ℕ → Given) (o : Option PendingCommand) (e : Entry) → IfSome o (λ a. id_at a.request ≡ id_in e) → id_in (entry_once_given handed answers o e) ≡ id_in e
 number_by handed answers None e is = refl
 number_by handed answers (Some a) e is = is
 
@@ -108,7 +109,7 @@ module _ (handed : HandedOn) (answers : ℕ → Given) (count : ℕ) (pending : 
   later = to_be handed answers pending held
 
   abbrev pub comes : ℕ → Entry → Entry
-  comes source e = entry_to_be handed answers (map.get pending (request_key source (id_in e))) e
+  comes source e = entry_once_given handed answers (map.get pending (request_key source (id_in e))) e
 
   comes_alike : (source : ℕ) (e : Entry) → id_in (comes source e) ≡ id_in e
   comes_alike source e = number_by handed answers (map.get pending (request_key source (id_in e))) e (ids source (id_in e))
@@ -119,7 +120,7 @@ module _ (handed : HandedOn) (answers : ℕ → Given) (count : ℕ) (pending : 
   free_stays : (source id : ℕ) (o : Option Entry) → map.get pending (request_key source id) ≡ None → IfSome o (λ e. Unit {0} × (id_in e ≡ id)) → option_map (comes source) o ≡ o
   free_stays source id None free is = refl
   free_stays source id (Some e) free is =
-      ap (λ n. Some (entry_to_be handed answers (map.get pending (request_key source n)) e)) is.1 ∙ ap (λ o. Some (entry_to_be handed answers o e)) free
+      ap (λ n. Some (entry_once_given handed answers (map.get pending (request_key source n)) e)) is.1 ∙ ap (λ o. Some (entry_once_given handed answers o e)) free
 
   same_entry : (m : Message) → map.get pending (request_key_of m) ≡ None → entry_for later m ≡ entry_for held m
   same_entry m free =
@@ -156,7 +157,7 @@ module _ (handed : HandedOn) (answers : ℕ → Given) (count : ℕ) (pending : 
   kept_where_none m source false true is free = refl
   kept_where_none m source true true is free =
       in_front_later source (entry_of (gives (hands_on handed) unasked) held m)
-      (ap (λ o. entry_to_be handed answers o (entry_of (gives (hands_on handed) unasked) held m)) (ap (λ s. map.get pending (request_key s (id_at m.bytes))) (sym (eqb-true m.source source is)) ∙ free))
+      (ap (λ o. entry_once_given handed answers o (entry_of (gives (hands_on handed) unasked) held m)) (ap (λ s. map.get pending (request_key s (id_at m.bytes))) (sym (eqb-true m.source source is)) ∙ free))
 
   kept_none : (a : Arrival) → IsFree pending (message_in a) → (source : ℕ)
       → list_map (comes source) ((arrival_held (gives (hands_on handed) unasked) held a).kept source) ≡ (arrival_held (gives (hands_on handed) unasked) later a).kept source
@@ -174,7 +175,7 @@ module _ (handed : HandedOn) (answers : ℕ → Given) (count : ℕ) (pending : 
   with_it m task = map.insert pending (request_key_of m) (now_asked m task)
 
   abbrev comes_with : Message → Task → ℕ → Entry → Entry
-  comes_with m task source e = entry_to_be handed answers (map.get (with_it m task) (request_key source (id_in e))) e
+  comes_with m task source e = entry_once_given handed answers (map.get (with_it m task) (request_key source (id_in e))) e
 
   inserted_here : (m : Message) (task : Task) → map.get (with_it m task) (request_key_of m) ≡ Some (now_asked m task)
   inserted_here m task =
@@ -200,14 +201,14 @@ module _ (handed : HandedOn) (answers : ℕ → Given) (count : ℕ) (pending : 
       ≡ (if of then take held.window (renewed id_in (entry_of (gives (hands_on handed) (answers count)) later m) (later.kept source)) else later.kept source)
   kept_where_asked m task source false is =
       same_lists (comes_with m task source) (comes source) (held.kept source)
-      (λ e. ap (λ o. entry_to_be handed answers o e) (inserted_there m task (request_key source (id_in e)) (λ same. absurd (eqb-false m.source source is (sym (ap (λ (k : RequestKey). k.source) same))))))
+      (λ e. ap (λ o. entry_once_given handed answers o e) (inserted_there m task (request_key source (id_in e)) (λ same. absurd (eqb-false m.source source is (sym (ap (λ (k : RequestKey). k.source) same))))))
   kept_where_asked m task source true is =
       let n = id_at m.bytes in
       let here : comes_with m task source (waiting m) ≡ entry_of (gives (hands_on handed) (answers count)) later m =
-      ap (λ o. entry_to_be handed answers o (waiting m)) (ap (λ s. map.get (with_it m task) (request_key s n)) (sym (eqb-true m.source source is)) ∙ inserted_here m task) in
+      ap (λ o. entry_once_given handed answers o (waiting m)) (ap (λ s. map.get (with_it m task) (request_key s n)) (sym (eqb-true m.source source is)) ∙ inserted_here m task) in
       let others : list_map (comes_with m task source) (without id_in n (held.kept source)) ≡ without id_in n (later.kept source) =
       map_without (comes_with m task source) (comes source) n (held.kept source)
-      (λ e apart. ap (λ o. entry_to_be handed answers o e) (inserted_there m task (request_key source (id_in e)) (λ same. apart (ap (λ (k : RequestKey). k.id) same))))
+      (λ e apart. ap (λ o. entry_once_given handed answers o e) (inserted_there m task (request_key source (id_in e)) (λ same. apart (ap (λ (k : RequestKey). k.id) same))))
       ∙ sym (without_in_map id_in id_in (comes source) (comes_alike source) n (held.kept source)) in
       sym (take-map (comes_with m task source) held.window (renewed id_in (waiting m) (held.kept source)))
       ∙ ap (take held.window) (λ i. here i ∷ others i)
@@ -407,7 +408,7 @@ two_steps_are_one handed held moment bytes count m task given arrives asked =
 
 -- ---- the laws
 module _ (own : ℕ) (handed : HandedOn) (busy : BusyTime) (window keep : ℕ) (answers : ℕ → Given) (count : ℕ) (pending : PendingCommands) (held : ResponderState (Unit {0})) (calls : List (Call ℕ)) (moment : ℕ) (bytes : List ℕ)
-    (looks : assembly.FeedLooksBack) (left : IsLeftInTurn own handed busy window keep answers count pending held calls) (free : IsFree pending (request_in held moment bytes)) where
+    (looks : assembly.FeedLooksBack) (left : IsLeftByParts own handed busy window keep answers count pending held calls) (free : IsFree pending (request_in held moment bytes)) where
   abbrev full : ResponderState ℕ
   full = over count (to_be handed answers pending held)
 
@@ -433,7 +434,7 @@ module _ (own : ℕ) (handed : HandedOn) (busy : BusyTime) (window keep : ℕ) (
 
   left_same : (given : Given) → IsAsGiven (in_turn handed answers) full moment bytes given → AreUnderTheirIds (pending_after handed held moment bytes pending count)
       → ((source : ℕ) → (to_be handed answers (pending_after handed held moment bytes pending count) (stepped handed held a)).kept source ≡ (received_held (gives (hands_on handed) given) (to_be handed answers pending held) moment bytes).kept source)
-      → IsLeftInTurn own handed busy window keep answers (count_after handed held moment bytes count) (pending_after handed held moment bytes pending count) (held_after handed held moment bytes) (Received moment bytes ∷ calls)
+      → IsLeftByParts own handed busy window keep answers (count_after handed held moment bytes count) (pending_after handed held moment bytes pending count) (held_after handed held moment bytes) (Received moment bytes ∷ calls)
   left_same given as_given ids kept = record {
     ids = ids;
     left = same_is_left (in_turn handed answers) own busy window keep 0 _ _ (Received moment bytes ∷ calls) (record {
@@ -450,7 +451,7 @@ module _ (own : ℕ) (handed : HandedOn) (busy : BusyTime) (window keep : ℕ) (
   }
 
   left_none : asked_now handed held moment bytes ≡ []
-      → IsLeftInTurn own handed busy window keep answers (count_after handed held moment bytes count) (pending_after handed held moment bytes pending count) (held_after handed held moment bytes) (Received moment bytes ∷ calls)
+      → IsLeftByParts own handed busy window keep answers (count_after handed held moment bytes count) (pending_after handed held moment bytes pending count) (held_after handed held moment bytes) (Received moment bytes ∷ calls)
   left_none none =
       let same : pending_after handed held moment bytes pending count ≡ pending = pending_where_none pending count (message_in a) (arrival_tasks handed held a) none in
       left_same unasked (given_none none) (subst AreUnderTheirIds (sym same) left.ids)
@@ -460,7 +461,7 @@ module _ (own : ℕ) (handed : HandedOn) (busy : BusyTime) (window keep : ℕ) (
       ∙ kept_none handed answers count pending held left.ids a free source)
 
   left_asked : (m : Message) (task : Task) → a ≡ Whole m → asked_now handed held moment bytes ≡ task ∷ []
-      → IsLeftInTurn own handed busy window keep answers (count_after handed held moment bytes count) (pending_after handed held moment bytes pending count) (held_after handed held moment bytes) (Received moment bytes ∷ calls)
+      → IsLeftByParts own handed busy window keep answers (count_after handed held moment bytes count) (pending_after handed held moment bytes pending count) (held_after handed held moment bytes) (Received moment bytes ∷ calls)
   left_asked m task is asked =
       let asks = ap (arrival_tasks handed held) (sym is) ∙ asked in
       let more : pending_after handed held moment bytes pending count ≡ with_it handed answers count pending held left.ids m task =
@@ -473,11 +474,11 @@ module _ (own : ℕ) (handed : HandedOn) (busy : BusyTime) (window keep : ℕ) (
       ∙ kept_asked handed answers count pending held left.ids m task (subst (λ x. IsFree pending (message_in x)) is free) asks source
       ∙ ap (λ x. (arrival_held (gives (hands_on handed) (answers count)) (to_be handed answers pending held) x).kept source) (sym is))
 
-  pub received : IsLeftInTurn own handed busy window keep answers (count_after handed held moment bytes count) (pending_after handed held moment bytes pending count) (held_after handed held moment bytes) (Received moment bytes ∷ calls)
+  pub received : IsLeftByParts own handed busy window keep answers (count_after handed held moment bytes count) (pending_after handed held moment bytes pending count) (held_after handed held moment bytes) (Received moment bytes ∷ calls)
   received = by_commands (one_asked handed answers count pending held left.ids a)
     where
       by_commands : (asked_now handed held moment bytes ≡ []) ⊎ ((task : Task) × (asked_now handed held moment bytes ≡ task ∷ []))
-          → IsLeftInTurn own handed busy window keep answers (count_after handed held moment bytes count) (pending_after handed held moment bytes pending count) (held_after handed held moment bytes) (Received moment bytes ∷ calls)
+          → IsLeftByParts own handed busy window keep answers (count_after handed held moment bytes count) (pending_after handed held moment bytes pending count) (held_after handed held moment bytes) (Received moment bytes ∷ calls)
       by_commands (inl none) = left_none none
       by_commands (inr one) =
           let whole = message_of_asked handed answers count pending held left.ids a one.0 one.1 in
@@ -496,7 +497,7 @@ module _ (own : ℕ) (handed : HandedOn) (busy : BusyTime) (window keep : ℕ) (
       ∙ ap (arrival_outcome (gives (hands_on handed) (answers count)) held) (sym is)
       ∙ sym (same_outcome handed answers count pending held left.ids (gives (hands_on handed) (answers count)) a free) ∙ sym (given_asked task asked).outcome ∙ step.0
 
-pub received_in_turn : assembly.FeedLooksBack → ReceivedInTurn
+pub received_in_turn : assembly.FeedLooksBack → ReceivedByParts
 received_in_turn looks own handed busy window keep answers count pending held calls moment bytes left free = received own handed busy window keep answers count pending held calls moment bytes looks left free
 
 pub unasked_looks_back : assembly.FeedLooksBack → UnaskedLooksBack
@@ -538,30 +539,30 @@ module _ (handed : HandedOn) (answers : ℕ → Given) (pending : PendingCommand
 
   -- what comes of an entry then
   each_answered : (e : Entry) (t : Bool) → (id_in e == id_at a.request) ≡ t
-      → entry_to_be handed answers (map.get without_it (request_key source (id_in (if t then given_entry else e)))) (if t then given_entry else e)
-      ≡ entry_to_be handed answers (map.get pending (request_key source (id_in e))) e
+      → entry_once_given handed answers (map.get without_it (request_key source (id_in (if t then given_entry else e)))) (if t then given_entry else e)
+      ≡ entry_once_given handed answers (map.get pending (request_key source (id_in e))) e
   each_answered e true same =
-      ap (λ n. entry_to_be handed answers (map.get without_it (request_key source n)) given_entry) id_is
-      ∙ ap (λ o. entry_to_be handed answers o given_entry) removed_here
+      ap (λ n. entry_once_given handed answers (map.get without_it (request_key source n)) given_entry) id_is
+      ∙ ap (λ o. entry_once_given handed answers o given_entry) removed_here
       ∙ ap (λ n. entry_given handed a (answers n)) (sym number_is)
-      ∙ sym (ap (λ n. entry_to_be handed answers (map.get pending (request_key source n)) e) (eqb-true (id_in e) (id_at a.request) same ∙ id_is) ∙ ap (λ o. entry_to_be handed answers o e) is)
+      ∙ sym (ap (λ n. entry_once_given handed answers (map.get pending (request_key source n)) e) (eqb-true (id_in e) (id_at a.request) same ∙ id_is) ∙ ap (λ o. entry_once_given handed answers o e) is)
   each_answered e false other =
-      ap (λ o. entry_to_be handed answers o e) (removed_there (request_key source (id_in e)) (λ same. absurd (eqb-false (id_in e) (id_at a.request) other (ap (λ (k : RequestKey). k.id) same ∙ sym id_is))))
+      ap (λ o. entry_once_given handed answers o e) (removed_there (request_key source (id_in e)) (λ same. absurd (eqb-false (id_in e) (id_at a.request) other (ap (λ (k : RequestKey). k.id) same ∙ sym id_is))))
 
   kept_answered : (other : ℕ) (t : Bool) → (source == other) ≡ t
-      → list_map (λ e. entry_to_be handed answers (map.get without_it (request_key other (id_in e))) e) (if t then replaced id_in given_entry (held.kept other) else held.kept other)
-      ≡ list_map (λ e. entry_to_be handed answers (map.get pending (request_key other (id_in e))) e) (held.kept other)
+      → list_map (λ e. entry_once_given handed answers (map.get without_it (request_key other (id_in e))) e) (if t then replaced id_in given_entry (held.kept other) else held.kept other)
+      ≡ list_map (λ e. entry_once_given handed answers (map.get pending (request_key other (id_in e))) e) (held.kept other)
   kept_answered other true here =
-      map_map (λ e. entry_to_be handed answers (map.get without_it (request_key other (id_in e))) e) (λ e. if id_in e == id_at a.request then given_entry else e) (held.kept other)
+      map_map (λ e. entry_once_given handed answers (map.get without_it (request_key other (id_in e))) e) (λ e. if id_in e == id_at a.request then given_entry else e) (held.kept other)
       ∙ same_lists _ _ (held.kept other) (λ e.
-      subst (λ s. entry_to_be handed answers (map.get without_it (request_key s (id_in (if id_in e == id_at a.request then given_entry else e)))) (if id_in e == id_at a.request then given_entry else e)
-      ≡ entry_to_be handed answers (map.get pending (request_key s (id_in e))) e) (eqb-true source other here)
+      subst (λ s. entry_once_given handed answers (map.get without_it (request_key s (id_in (if id_in e == id_at a.request then given_entry else e)))) (if id_in e == id_at a.request then given_entry else e)
+      ≡ entry_once_given handed answers (map.get pending (request_key s (id_in e))) e) (eqb-true source other here)
       (each_answered e (id_in e == id_at a.request) refl))
   kept_answered other false there =
       same_lists _ _ (held.kept other) (λ e.
-      ap (λ o. entry_to_be handed answers o e) (removed_there (request_key other (id_in e)) (λ same. absurd (eqb-false source other there (sym (ap (λ (k : RequestKey). k.source) same))))))
+      ap (λ o. entry_once_given handed answers o e) (removed_there (request_key other (id_in e)) (λ same. absurd (eqb-false source other there (sym (ap (λ (k : RequestKey). k.source) same))))))
 
-pub answered_in_turn : AnsweredInTurn
+pub answered_in_turn : AnsweredByParts
 answered_in_turn own handed busy window keep answers count pending held calls handle a left asked =
     let found = numbered_is handle.number (map.get pending (request_key handle.source handle.id)) a asked in
     record {
@@ -583,7 +584,7 @@ answered_in_turn own handed busy window keep answers count pending held calls ha
 none_under_ids : AreUnderTheirIds map.empty
 none_under_ids source id = subst (λ o. IfSome o (λ a. id_at a.request ≡ id)) (sym (map.get-empty request_key_cmp (request_key source id))) tt
 
-pub restarted_in_turn : assembly.NewLooksBack → RestartedInTurn
+pub restarted_in_turn : assembly.NewLooksBack → RestartedByParts
 restarted_in_turn new own handed busy window keep answers count pending held calls moment left = record {
   ids = none_under_ids;
   left = same_is_left (in_turn handed answers) own busy window keep 0 _ (restarted_held (over count (to_be handed answers pending held)) moment) (Restart moment ∷ calls) (record {
@@ -629,9 +630,9 @@ map_none f [] none = refl
 map_none f (x ∷ xs) none = cc
 
 none_kept : (own : ℕ) (handed : HandedOn) (busy : BusyTime) (window keep : ℕ) (answers : ℕ → Given) (count : ℕ) (pending : PendingCommands) (held : ResponderState (Unit {0})) (calls : List (Call ℕ))
-    → IsLeftInTurn own handed busy window keep answers count pending held calls → own ≡ NULL_EID → (source : ℕ) → held.kept source ≡ []
+    → IsLeftByParts own handed busy window keep answers count pending held calls → own ≡ NULL_EID → (source : ℕ) → held.kept source ≡ []
 none_kept own handed busy window keep answers count pending held calls left none source =
-    map_none (λ e. entry_to_be handed answers (map.get pending (request_key source (id_in e))) e) (held.kept source)
+    map_none (λ e. entry_once_given handed answers (map.get pending (request_key source (id_in e))) e) (held.kept source)
     (left.left.kept source
     ∙ ap (λ o. list_map (entry_at (in_turn handed answers) busy window keep 0) (take window (recent busy window keep (events o calls) source))) none
     ∙ ap (λ places. list_map (entry_at (in_turn handed answers) busy window keep 0) (take window places)) (none_recent busy window keep calls source)
@@ -648,8 +649,8 @@ assigned_alike true handed answers count pending held moment eid none = record {
   keep = refl;
   open_messages = refl;
   kept = λ source.
-      ap (list_map (λ e. entry_to_be handed answers (map.get map.empty (request_key source (id_in e))) e)) (none refl source)
-      ∙ sym (ap (list_map (λ e. entry_to_be handed answers (map.get pending (request_key source (id_in e))) e)) (none refl source));
+      ap (list_map (λ e. entry_once_given handed answers (map.get map.empty (request_key source (id_in e))) e)) (none refl source)
+      ∙ sym (ap (list_map (λ e. entry_once_given handed answers (map.get pending (request_key source (id_in e))) e)) (none refl source));
   state = refl;
   serves_from = refl;
   last = refl;
@@ -666,7 +667,7 @@ assigned_alike false handed answers count pending held moment eid none = record 
   last = refl;
 }
 
-pub assigned_in_turn : assembly.NewLooksBack → AssignedInTurn
+pub assigned_in_turn : assembly.NewLooksBack → AssignedByParts
 assigned_in_turn new own handed busy window keep answers count pending held calls moment eid left = record {
   ids = none_under_ids;
   left = same_is_left (in_turn handed answers) eid busy window keep 0 _ (assigned_held (over count (to_be handed answers pending held)) moment eid) (Assigned moment own ∷ calls)
@@ -675,13 +676,13 @@ assigned_in_turn new own handed busy window keep answers count pending held call
       (assigned_looks_back (in_turn handed answers) new own busy window keep 0 (over count (to_be handed answers pending held)) calls moment eid left.left);
 }
 
-pub ended_in_turn : assembly.ForgetLooksBack → EndedInTurn
+pub ended_in_turn : assembly.ForgetLooksBack → EndedByParts
 ended_in_turn looks own handed busy window keep answers count pending held calls key left = record {
   ids = left.ids;
   left = ended_looks_back (in_turn handed answers) looks own busy window keep 0 (over count (to_be handed answers pending held)) calls key left.left;
 }
 
-pub new_in_turn : assembly.NewLooksBack → NewInTurn
+pub new_in_turn : assembly.NewLooksBack → NewByParts
 new_in_turn new own handed busy window keep answers = record {
   ids = none_under_ids;
   left = same_is_left (in_turn handed answers) own busy window keep 0 _ _ [] (record {
@@ -697,7 +698,7 @@ new_in_turn new own handed busy window keep answers = record {
   }) (new_looks_back (in_turn handed answers) new own busy window keep 0);
 }
 
-pub same_in_turn : SameInTurn
+pub same_in_turn : SameByParts
 same_in_turn own handed busy window keep answers count pending new held calls same left = record {
   ids = left.ids;
   left = same_is_left (in_turn handed answers) own busy window keep 0 _ (over count (to_be handed answers pending held)) calls (record {
@@ -706,7 +707,7 @@ same_in_turn own handed busy window keep answers count pending new held calls sa
     window = same.window;
     keep = same.keep;
     open_messages = same.open_messages;
-    kept = λ source. ap (list_map (λ e. entry_to_be handed answers (map.get pending (request_key source (id_in e))) e)) (same.kept source);
+    kept = λ source. ap (list_map (λ e. entry_once_given handed answers (map.get pending (request_key source (id_in e))) e)) (same.kept source);
     state = refl;
     serves_from = same.serves_from;
     last = same.last;

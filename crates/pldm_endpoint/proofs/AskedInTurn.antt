@@ -12,7 +12,7 @@ use Rattle.pldm_wire.specs.declared.busy_time.BusyTime.{BusyTime}
 use Rattle.pldm_wire.specs.declared.command.Command.{Command}
 use Rattle.pldm_wire.specs.declared.handed_on.HandedOn.{HandedOn}
 use Rattle.pldm_responder.specs.Arrivals.{packets_back}
-use Rattle.pldm_responder.specs.Asked.{Given, gives, over, response_in}
+use Rattle.pldm_responder.specs.Asked.{Given, gives, response_in}
 use Rattle.pldm_responder.specs.Askings.{askings}
 use Rattle.pldm_responder.specs.Calls.{events}
 use Rattle.pldm_responder.specs.Events.{Event, Came, Set, Restarted, Changed, Message, Place, is_copy, is_copy_of, is_fresh, is_refused}
@@ -26,16 +26,17 @@ use Rattle.pldm_responder.specs.Recency.{of_number}
 use Rattle.pldm_responder.proofs.AskedOnce.{tasks_look_back}
 use Rattle.pldm_responder.proofs.CallsLookBack.{entry_is}
 use Rattle.pldm_responder.proofs.KeptEntries.{found_holds}
-use Rattle.pldm_endpoint.specs.Histories.{entry_to_be, in_turn, to_be}
+use Rattle.pldm_endpoint.specs.Histories.{entry_once_given, held_once_given, in_turn}
 use Rattle.pldm_endpoint.specs.RequestKeys.{request_key}
-use Rattle.pldm_endpoint.specs.TwoSteps.{entry_given}
+use Rattle.pldm_endpoint.specs.TwoSteps.{entry_given, held_in}
 use Rattle.pldm_endpoint.specs.Turns.{AnswersItsOrigin, CopiesAreAnsweredAgain, CountsAskings, IsAskedInTurn, is_unchanged}
 use Rattle.pldm_endpoint.proofs.AnswersInTurn.{by_performing, comes, found_later, same_commands}
+use Rattle.pldm_endpoint.proofs.CallsInTurn.{free_where_accepted}
 
 pub asked_in_turn : assembly.FeedLooksBack → IsAskedInTurn
-asked_in_turn looks own handed busy window keep answers count pending held calls moment bytes left free =
-    sym (same_commands handed answers count pending held left.ids (received_arrival held moment bytes) free)
-    ∙ tasks_look_back (in_turn handed answers) looks (hands_on handed) own busy window keep 0 (over count (to_be handed answers pending held)) calls moment bytes left.left
+asked_in_turn looks answers e calls moment bytes left accepted =
+    sym (same_commands e.handed_on answers e.count e.pending (held_in e) left.ids (received_arrival (held_in e) moment bytes) (free_where_accepted e moment bytes accepted))
+    ∙ tasks_look_back (in_turn e.handed_on answers) looks (hands_on e.handed_on) e.end.own e.end.busy e.end.rows.window e.end.keep 0 (held_once_given answers e) calls moment bytes left.left
 
 -- ---- the number of an asking
 more_asked : (tasks before : List Task) → length (tasks ++ before) ≡ length tasks + length before
@@ -59,7 +60,8 @@ module _ (handed : HandedOn) (busy : BusyTime) (window keep : ℕ) (answers : �
       turned m n = omega arith
 
 pub counts_askings : CountsAskings
-counts_askings own handed busy window keep answers count pending held calls left unchanged = left.left.state ∙ counted handed busy window keep answers (events own calls) unchanged
+counts_askings answers e calls left unchanged =
+    left.left.state ∙ counted e.handed_on e.end.busy e.end.rows.window e.end.keep answers (events e.end.own calls) unchanged
 
 -- ---- what goes out
 abbrev answer_in : Option Entry → List ℕ
@@ -71,20 +73,22 @@ bytes_in None = []
 bytes_in (Some e) = e.bytes
 
 pub answers_its_origin : AnswersItsOrigin
-answers_its_origin own handed busy window keep answers count pending held calls source id a place left is from =
-    let e : Entry = record { moment = place.message.moment; bytes = place.message.bytes; answer = reply_at (in_turn handed answers) busy window keep 0 place } in
-    let same : Some (entry_given handed a (answers a.number)) ≡ Some e =
-    given_by (of_number id_in id (held.kept source)) e (found_holds (λ _. Unit {0}) id (held.kept source) (λ k d below. tt))
-    (sym (found_later handed answers count pending held left.ids source id)
+answers_its_origin answers e calls source id a place left is from =
+    let device = in_turn e.handed_on answers in
+    let kept = (held_in e).kept source in
+    let entry : Entry = record { moment = place.message.moment; bytes = place.message.bytes; answer = reply_at device e.end.busy e.end.rows.window e.end.keep 0 place } in
+    let same : Some (entry_given e.handed_on a (answers a.number)) ≡ Some entry =
+    given_by (of_number id_in id kept) entry (found_holds (λ _. Unit {0}) id kept (λ k d below. tt))
+    (sym (found_later e.handed_on answers e.count e.pending (held_in e) left.ids source id)
     ∙ ap (of_number id_in id) (left.left.kept source)
-    ∙ entry_is (in_turn handed answers) own busy window keep 0 (events own calls) source id
-    ∙ ap (option_map (entry_at (in_turn handed answers) busy window keep 0)) from) in
+    ∙ entry_is device e.end.own e.end.busy e.end.rows.window e.end.keep 0 (events e.end.own calls) source id
+    ∙ ap (option_map (entry_at device e.end.busy e.end.rows.window e.end.keep 0)) from) in
     (ap answer_in same, ap bytes_in same)
   where
-    given_by : (o : Option Entry) (e : Entry) → IfSome o (λ x. Unit {0} × (id_in x ≡ id)) → option_map (comes handed answers count pending held left.ids source) o ≡ Some e → Some (entry_given handed a (answers a.number)) ≡ Some e
-    given_by None e found h = cc
-    given_by (Some x) e found h =
-        sym (ap (λ n. Some (entry_to_be handed answers (map.get pending (request_key source n)) x)) found.1 ∙ ap (λ o. Some (entry_to_be handed answers o x)) is) ∙ h
+    given_by : (o : Option Entry) (entry : Entry) → IfSome o (λ x. Unit {0} × (id_in x ≡ id)) → option_map (comes e.handed_on answers e.count e.pending (held_in e) left.ids source) o ≡ Some entry → Some (entry_given e.handed_on a (answers a.number)) ≡ Some entry
+    given_by None entry found h = cc
+    given_by (Some x) entry found h =
+        sym (ap (λ n. Some (entry_once_given e.handed_on answers (map.get e.pending (request_key source n)) x)) found.1 ∙ ap (λ o. Some (entry_once_given e.handed_on answers o x)) is) ∙ h
 
 -- ---- a copy
 by_command : (handed : HandedOn) (answers : ℕ → Given) (count : ℕ) (r : Result Command ℕ) → answer_to (in_turn handed answers) count r ≡ answer_to (gives (hands_on handed) (answers count)) tt r

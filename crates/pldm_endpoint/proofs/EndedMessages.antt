@@ -51,6 +51,7 @@ dropped_is inside old new moment bytes reason view arrives left closed =
         serves_from = ap (λ (e : End). e.serves_from) left ∙ ap (λ a. (stepped inside.handed_on held a).serves_from) arrives;
         last = ap (λ (e : End). e.last) left;
       };
+      begun = ap (λ (e : End). e.begun) left;
       pending = ap (λ a. pending_by inside.pending inside.count (message_in a) (arrival_tasks inside.handed_on held a)) arrives;
       count = plus_none inside.count ∙ ap (λ a. inside.count + length (arrival_tasks inside.handed_on held a)) arrives;
       room = subst (λ a. AreRowsAfter held inside.end.rows a new.rows) arrives (record {

@@ -181,6 +181,7 @@ module _ (old new : EndpointView) (moment : ℕ) (r : Requested) (command : Opti
           serves_from = ap (λ (e : End). e.serves_from) rest;
           last = ap (λ (e : End). e.last) rest;
         });
+    begun = ap (λ (e : End). e.begun) rest;
     pending = pending_is ∙ sym (ap (pending_by old.pending old.count (Some m)) tasks_are);
     count = count_is ∙ sym (ap (λ (tasks : List Task). old.count + length tasks) tasks_are);
     room = record {

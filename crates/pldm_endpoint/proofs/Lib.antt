@@ -1,4 +1,6 @@
+pub mod ByParts
 pub mod AnswersInTurn
+pub mod CallsInTurn
 pub mod AskedInTurn
 pub mod KeyOrder
 pub mod PendingGlue

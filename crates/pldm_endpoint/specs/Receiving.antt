@@ -9,7 +9,7 @@ use Rattle.pldm_responder.specs.Arrivals.{Whole}
 use Rattle.pldm_responder.specs.Ends.{AreSameRows, eid_or_null, has_row}
 use Rattle.pldm_responder.specs.Slots.{source_count}
 use Rattle.pldm_responder.specs.ResponderStates.{IsHeld, held_at_first}
-use Rattle.pldm_responder.specs.Looking.{IsRequestTo, end_finished, ended_by, message_at}
+use Rattle.pldm_responder.specs.Looking.{IsRequestTo, end_after, end_finished, ended_by, message_at}
 use Rattle.pldm_responder.specs.Needs.{NeedsMemory}
 use Rattle.pldm_responder.specs.OpenOrder.{ended_held}
 use Rattle.pldm_responder.specs.Requested.{Requested}
@@ -37,9 +37,11 @@ pub record HasSameSettings (new old : EndpointView) : Type 0 where
   pub ends_oldest : new.end.ends_oldest ≡ old.end.ends_oldest
   pub max_pending : new.max_pending ≡ old.max_pending
 
--- nothing is pending and no source has room for answers; the commands of before are counted still
+-- nothing is pending, no message has begun, and no source has room for answers; the commands of before are counted
+-- still
 pub record HasForgotten (new old : EndpointView) : Type 0 where
   pub idle : new.pending ≡ map.empty
+  pub begun : new.end.begun ≡ []
   pub no_rows : source_count new.end.rows ≡ 0
   pub count : new.count ≡ old.count
   pub settings : HasSameSettings new old
@@ -56,6 +58,7 @@ pub record IsNewEndpoint (own : Option ℕ) (keeping : Keeping) (handed : Handed
   pub max_pending : new.max_pending ≡ most
   pub idle : new.pending ≡ map.empty
   pub count : new.count ≡ 0
+  pub begun : new.end.begun ≡ []
   pub no_rows : source_count new.end.rows ≡ 0
 
 -- the bytes of a packet were received at a moment
@@ -67,6 +70,8 @@ pub record HasReceived (old : EndpointView) (moment : ℕ) (bytes : List ℕ) (n
   pub command : IsAskedBy step new.pending (asked_now old.handed_on (held_in old) moment bytes)
   -- what is held and pending then; where it begins a message for which there was no room, the oldest has ended
   pub held : IsHeld (held_in new) (ended_held (ended_by old.end bytes) (held_after old.handed_on (held_in old) moment bytes))
+  -- the order in which the open messages began: one that begins now is the last of it
+  pub begun : new.end.begun ≡ (end_after old.end moment bytes).begun
   pub pending : new.pending ≡ pending_after old.handed_on (held_in old) moment bytes old.pending old.count
   pub count : new.count ≡ count_after old.handed_on (held_in old) moment bytes old.count
   -- the sources with room for answers
@@ -80,6 +85,7 @@ IsCommanded e moment bytes = (task : Task) × (asked_now e.handed_on (held_in e)
 -- nothing has changed
 pub record IsAsBefore (new old : EndpointView) : Type 0 where
   pub held : IsHeld (held_in new) (held_in old)
+  pub begun : new.end.begun ≡ old.end.begun
   pub pending : new.pending ≡ old.pending
   pub count : new.count ≡ old.count
   pub room : AreSameRows new.end.rows old.end.rows
@@ -127,6 +133,7 @@ module _ (old : EndpointView) (moment : ℕ) (r : Requested) (new : EndpointView
           open_messages = (end_finished old.end moment r).open_messages;
           last = moment;
         })
+    pub begun : new.end.begun ≡ old.end.begun
     pub pending :
         new.pending
         ≡ pending_by old.pending old.count (Some (message_at moment r))
@@ -156,6 +163,8 @@ pub record HasAnswered
   pub outcome_is : IsAnsweredBy old.handed_on old.end.own handle given (pending_at old.pending handle) outcome
   -- it is kept for that request, which is no longer pending
   pub held : IsHeld (held_in new) (answered_held old.handed_on (held_in old) handle given (pending_at old.pending handle))
+  -- the open messages began in the same order
+  pub begun : new.end.begun ≡ old.end.begun
   pub pending : new.pending ≡ map.remove old.pending (request_key handle.source handle.id)
   pub count : new.count ≡ old.count
   -- the sources with room for answers are the same

@@ -126,8 +126,9 @@ impl Endpoint {
         self.end.bounds()
     }
 
-    /// How many pairs of a source and an instance ID have a kept answer, or a command that is pending: at most the
-    /// window for each source that [`Endpoint::bounds`] allow.
+    /// How many pairs of a source and an instance ID have a kept answer, or the place of one for a command that is
+    /// pending: a pending command past the window has none, and does not count. They are at most the window for each
+    /// source that [`Endpoint::bounds`] allow.
     pub fn kept(&self) -> usize
         ensures value { CountsKept (kept_for (held_in self.now)) result }
         ensures bounded { result ≤ self.now.end.rows.window * self.now.end.bounds.sources }
@@ -198,7 +199,8 @@ impl Endpoint {
     /// # Errors
     ///
     /// Where the packet completes a request whose source and instance ID have a pending command, and only then:
-    /// `BeingPerformed` where it is that command's own request, byte for byte, `Performing` where it is another.
+    /// `BeingPerformed` where it is that command's own request, byte for byte, `Performing` where it is another, also one
+    /// that would be refused in the busy time.
     /// `Full` exactly where a command would be pending past [`Endpoint::max_pending`], or 2^64 - 1 were handed out.
     /// `Sources` exactly where a request that is no copy comes from a source without room for its answers, and as
     /// many sources have room as [`Bounds::sources`] allow. `OpenMessages` exactly where a packet begins a message of

@@ -1,6 +1,6 @@
 //! Laws of an endpoint over any list of its calls: each function does nothing and ensures its law.
 
-ghost use Rattle.pldm_endpoint.specs.Histories.{AnsweredInTurn, AskedLooksBack, AssignedInTurn, EndedInTurn, NewInTurn, ReceivedInTurn, RestartedInTurn, SameInTurn, TwoStepsAreOne, UnaskedLooksBack};
+ghost use Rattle.pldm_endpoint.specs.Histories.{AnsweredInTurn, AssignedInTurn, NewInTurn, ReceivedInTurn, RefusedInTurn, RestartedInTurn, StepLooksBack, TwoStepsAreOne};
 ghost use Rattle.pldm_endpoint.specs.RoundRobin.{NewInTurnIsFresh};
 ghost use Rattle.pldm_endpoint.specs.Turns.{AnswersItsOrigin, CopiesAreAnsweredAgain, CountsAskings, IsAskedInTurn};
 
@@ -8,17 +8,15 @@ use pldm_platform::Platform;
 
 /// After any list of calls an endpoint returns and holds what a responder would, by looking back over the list, if its
 /// platform gave the answers that the device gave, each to the command that it was asked for. Only the answers to what
-/// the device still performs are missing from what is held.
+/// the device still performs are missing from what is held. Each law says of a call, by its contract, what it leaves.
 pub fn answers_come_in_turn()
+    ensures new { NewInTurn }
     ensures received { ReceivedInTurn }
-    ensures unasked { UnaskedLooksBack }
-    ensures asked { AskedLooksBack }
+    ensures returned { StepLooksBack }
     ensures answered { AnsweredInTurn }
     ensures restarted { RestartedInTurn }
     ensures assigned { AssignedInTurn }
-    ensures ended { EndedInTurn }
-    ensures new { NewInTurn }
-    ensures same { SameInTurn }
+    ensures refused { RefusedInTurn }
     ensures at_once { TwoStepsAreOne }
 {
     mctp_assembly::laws::looks_back();

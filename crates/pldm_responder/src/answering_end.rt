@@ -191,6 +191,7 @@ impl AnsweringEnd {
         ensures held { IsHeld (held_by self.new) (assigned_held (held_by self.old) now eid) }
         ensures bounds { self.new.bounds ≡ self.old.bounds }
         ensures ends_oldest { self.new.ends_oldest ≡ self.old.ends_oldest }
+        ensures begun { self.new.begun ≡ [] }
         ensures no_rows { source_count self.new.rows ≡ 0 }
         ensures none { (source : ℕ) → kept_in self.new.rows source ≡ [] }
     {

@@ -53,6 +53,7 @@ returns-clause-answered c = λ given its is.
           (goes_out handed c.args.handle.now given a _ found items made.0 own c.args.changed made.1));
       held =
           subst (λ (e : EndpointView). IsHeld (held_by c.keep_late.new.self) (answered_held handed (held_by e.end) c.args.handle.now given (pending_at c.args.self.now.pending c.args.handle.now))) c.self.view_is kept;
+      begun = search rules;
       pending = search rules;
       count = search rules;
       room = search rules;

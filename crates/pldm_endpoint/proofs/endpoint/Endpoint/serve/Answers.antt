@@ -30,6 +30,7 @@ returns-then-ne-clause-served c =
       command = search (rules, quiet);
       held = subst (λ (x : EndpointView). IsHeld (held_by c.finish.new.self) (record (stepped x.handed_on (held_in x) (Whole m)) { open_messages = (end_finished x.end c.args.now r).open_messages; last = c.args.now }))
           c.self.view_is (still_held e c.finish.new.self c.args.now r none c.finish.ensures);
+      begun = search rules;
       pending = search (rules, quiet);
       count = search (rules, quiet);
       room = search (rules, quiet);
