@@ -1,5 +1,5 @@
 -- Laws over the definitions alone.
-use Rattle.std.specs.Prelude.{◌≡◌, ◌≢◌, ℕ, List, Ok, Err, IsErr}
+use Rattle.std.specs.Prelude.{◌≡◌, ◌≢◌, ℕ, List, ◌∷◌, Ok, Err, IsErr}
 use Rattle.mctp_i2c.specs.Addresses.{IsSmbusAddress, IsDynamicAddress}
 use Rattle.mctp_i2c.specs.Changes.{AreBytes, AreChanged, IsBurst, IsTwoBits}
 use Rattle.mctp_i2c.specs.Packets.{HasFrame}
@@ -33,35 +33,40 @@ I3cOnlyFramesAreRead =
     (address : ℕ) (direction : Direction) (bytes packet : List ℕ)
     → i3c_readings.reading address direction bytes ≡ Ok packet → i3c_readings.IsFrameOf address direction packet bytes
 
--- a frame of which some of eight bits in a row changed is refused
+-- a frame of which some of eight bits in a row changed is refused, by the device of whatever address reads it then
 abbrev pub SmbusBurstsAreSeen : Type 0
 SmbusBurstsAreSeen =
-    (source own difference : ℕ) (packet changed : List ℕ)
-    → IsSmbusAddress source → IsSmbusAddress own → HasFrame packet → AreBytes packet
-    → IsBurst difference → AreChanged difference (smbus.frame source own packet) changed
-    → IsErr (smbus_readings.reading own changed)
+    (source destination reader difference : ℕ) (packet changed : List ℕ)
+    → IsSmbusAddress source → IsSmbusAddress destination → HasFrame packet → AreBytes packet
+    → IsBurst difference → AreChanged difference (smbus.frame source destination packet) changed
+    → IsErr (smbus_readings.reading reader changed)
 
+-- On I3C the address byte before the frame counts: the changed one begins the transfer in which the frame is read.
 abbrev pub I3cBurstsAreSeen : Type 0
 I3cBurstsAreSeen =
-    (address difference : ℕ) (direction : Direction) (packet changed : List ℕ)
-    → IsDynamicAddress address → HasFrame packet → AreBytes packet
-    → IsBurst difference → AreChanged difference (i3c.frame address direction packet) changed
-    → IsErr (i3c_readings.reading address direction changed)
+    (address other difference : ℕ) (direction other_direction : Direction) (packet changed : List ℕ)
+    → IsDynamicAddress address → IsDynamicAddress other → HasFrame packet → AreBytes packet
+    → IsBurst difference
+    → AreChanged difference (i3c.address_byte address direction ∷ i3c.frame address direction packet)
+      (i3c.address_byte other other_direction ∷ changed)
+    → IsErr (i3c_readings.reading other other_direction changed)
 
 -- and so is one of which two bits changed that are less than 127 apart
 abbrev pub SmbusTwoBitsAreSeen : Type 0
 SmbusTwoBitsAreSeen =
-    (source own difference : ℕ) (packet changed : List ℕ)
-    → IsSmbusAddress source → IsSmbusAddress own → HasFrame packet → AreBytes packet
-    → IsTwoBits difference → AreChanged difference (smbus.frame source own packet) changed
-    → IsErr (smbus_readings.reading own changed)
+    (source destination reader difference : ℕ) (packet changed : List ℕ)
+    → IsSmbusAddress source → IsSmbusAddress destination → HasFrame packet → AreBytes packet
+    → IsTwoBits difference → AreChanged difference (smbus.frame source destination packet) changed
+    → IsErr (smbus_readings.reading reader changed)
 
 abbrev pub I3cTwoBitsAreSeen : Type 0
 I3cTwoBitsAreSeen =
-    (address difference : ℕ) (direction : Direction) (packet changed : List ℕ)
-    → IsDynamicAddress address → HasFrame packet → AreBytes packet
-    → IsTwoBits difference → AreChanged difference (i3c.frame address direction packet) changed
-    → IsErr (i3c_readings.reading address direction changed)
+    (address other difference : ℕ) (direction other_direction : Direction) (packet changed : List ℕ)
+    → IsDynamicAddress address → IsDynamicAddress other → HasFrame packet → AreBytes packet
+    → IsTwoBits difference
+    → AreChanged difference (i3c.address_byte address direction ∷ i3c.frame address direction packet)
+      (i3c.address_byte other other_direction ∷ changed)
+    → IsErr (i3c_readings.reading other other_direction changed)
 
 -- on I3C the PEC alone says whose a frame is: one for another transfer is refused
 abbrev pub I3cOthersAreRefused : Type 0

@@ -12,7 +12,7 @@ pub fn smbus_frames_read_back()
 {}
 
 /// A frame on SMBus is refused where some of eight bits in a row changed, and where two bits did that are
-/// less than 127 apart.
+/// less than 127 apart, by whatever device reads it then: the bits of its address may be among them.
 pub fn smbus_changes_are_seen()
     ensures bursts { SmbusBurstsAreSeen }
     ensures two_bits { SmbusTwoBitsAreSeen }
@@ -25,7 +25,8 @@ pub fn i3c_frames_read_back()
 {}
 
 /// A frame on I3C is refused where some of eight bits in a row changed, where two bits did that are less than
-/// 127 apart, and in a transfer of another target or the other way.
+/// 127 apart, and in a transfer of another target or the other way. Bits of the address byte before it may be among
+/// them: the frame is then read in the transfer that the changed byte begins.
 pub fn i3c_changes_are_seen()
     ensures bursts { I3cBurstsAreSeen }
     ensures two_bits { I3cTwoBitsAreSeen }

@@ -1,2 +1,3 @@
 pub mod SerialRead
+pub mod ChangesSeen
 mod WorkedFrames
