@@ -119,6 +119,23 @@ def toolchain(rows, version):
     rows.check("the version names the toolchain's logic", named is not None and kit.endswith(f" logic {named[2]}"), kit)
 
 
+def commands_in(text):
+    """The names of the commands in a text that lists them with their words, as `COMMAND is gettid, settid N, ..`."""
+    listed = " ".join(re.search(r"^COMMAND is (.*?)\.\s", text, re.M | re.S)[1].split())
+    return [item.split()[0] for item in re.split(r", | or ", listed)]
+
+
+def commands(rows, run, texts, device):
+    """The help of `run` and of `ask`, the man page, and what `--explain` expects list the same commands."""
+    with open(os.path.join(ROOT, "docs", "mctpctl.1")) as text:
+        listed = {"the man page": commands_in(text.read())}
+    listed |= {f"the help of {name}": commands_in(texts[name.upper()]) for name in ("run", "ask")}
+    ran = run(["run", "--explain"], f"{device}%%\nrequester 8 timeout 200 tries 3\nat 0 open 8 nothing\n")
+    expected = re.findall(r"'(\w+)'", ran.stderr.decode().partition("expected")[2])
+    for place, names in listed.items():
+        rows.equal(f"the commands of {place}", names, expected)
+
+
 def check(rows, run, program):
     """Checks each row; `run(arguments, text)` runs the program, whose name is None where `serve` cannot be run."""
     texts = constants()
@@ -135,5 +152,6 @@ def check(rows, run, program):
     for name, text, want in (("answer", given, answered), ("run", described, report), ("show", capture, shown)):
         ran = run([name], text)
         rows.check(f"the example in the help of {name}", ran.stdout.decode() == want, repr(ran.stdout[:80]))
+    commands(rows, run, texts, device)
     if program:
         served(rows, program, device, texts["SERVE"])
