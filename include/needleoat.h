@@ -819,10 +819,10 @@ struct needleoat_step {
  * there is a static one: so also where not `assigned`, and it then changes nothing. Where an accepted one changes the
  * endpoint ID, the endpoint has the new one from then on: the kept answers, the messages that have begun and the
  * pending commands are forgotten, as by needleoat_endpoint_restart; the busy time begins where it had an endpoint ID
- * before. A later copy of an accepted one (the same bytes of the same source, less than `keep_ms` after it) gets the
- * same answer and changes nothing, also where another was accepted between: where 10 was set and then 11, a copy of the
- * first is answered 'accepted, 10', and the endpoint ID stays 11. While there is no endpoint ID every message of PLDM
- * is dropped.
+ * before. A later copy of one of the last 8 accepted (the same bytes of the same source, less than `keep_ms` after it)
+ * gets the same answer and changes nothing, also where another was accepted between: where 10 was set and then 11, a
+ * copy of the first is answered 'accepted, 10', and the endpoint ID stays 11. While there is no endpoint ID every
+ * message of PLDM is dropped.
  */
 struct needleoat_step needleoat_endpoint_receive(struct needleoat_endpoint *endpoint, uint64_t now_ms,
                                                  const uint8_t *packet, uint64_t length,
@@ -888,10 +888,10 @@ struct needleoat_step needleoat_endpoint_answer_bytes(struct needleoat_endpoint 
  * performed, or nothing that sets, as `busy` of the settings says. An answer to one of those commands is refused with
  * 10 from then on.
  *
- * The endpoint ID stays, also an assigned one: DSP0236 has a device keep it over an internal reset, and the bus owner
- * goes on asking there. So does what is known of accepted Set Endpoint ID: a copy of one still gets its answer and
- * changes nothing, as needleoat_endpoint_receive says. To be without an endpoint ID again, free the endpoint while
- * nothing is pending, and make it anew.
+ * The endpoint ID stays, also an assigned one: DSP0236 says that a device should keep it over an internal reset, and
+ * the bus owner goes on asking there. So does what is known of accepted Set Endpoint ID: a copy of one still gets its
+ * answer and changes nothing, as needleoat_endpoint_receive says. To be without an endpoint ID again, free the endpoint
+ * while nothing is pending, and make it anew.
  */
 uint8_t needleoat_endpoint_restart(struct needleoat_endpoint *endpoint, uint64_t now_ms);
 

@@ -146,8 +146,8 @@ static bool is_within(const struct load *load, size_t bound) {
     return well && full <= bound && most <= bound + OPEN_MESSAGE && in_use == 0;
 }
 
-/* A command pending beside others takes its place and its request, here of 4 bytes. */
-enum { COMMAND_MOST = 92 };
+/* A command pending beside others takes two blocks: its place and its request, here of 4 bytes. */
+enum { COMMAND_MOST = 92, COMMAND_BLOCKS = 2 };
 
 /* Prints what an endpoint takes step by step. */
 static bool print_steps(void) {
@@ -162,9 +162,11 @@ static bool print_steps(void) {
         printf("heap of an endpoint with answers for %d sources %zu\n", i + 1, in_use);
     }
     for (uint8_t i = 1; i <= MANY_COMMANDS; i++) {
-        size_t before_it = in_use;
+        size_t bytes = in_use, blocks = growths;
         if (get_tid(10, i).kind != NEEDLEOAT_STEP_PERFORM) return false;
-        if (1 < i && i < MANY_COMMANDS && in_use > before_it + COMMAND_MOST) return false;
+        bytes = in_use - bytes;
+        blocks = growths - blocks;
+        if (1 < i && i < MANY_COMMANDS && (bytes > COMMAND_MOST || blocks > COMMAND_BLOCKS)) return false;
         printf("heap of an endpoint with %d commands too %zu\n", i, in_use);
     }
     if (get_tid(10, MANY_COMMANDS + 1).reason != NEEDLEOAT_TOO_MANY_COMMANDS) return false;

@@ -45,7 +45,7 @@ CountsAskings =
     (askings (tasks_of (hands_on e.handed_on)) e.end.busy e.end.rows.window e.end.keep (events e.end.own calls))
 
 -- what goes out for what is pending is the reply of the request that it was asked for: the latest fresh one of its
--- source and instance ID, where that is still among those of the source's latest instance IDs, as many as the window has
+-- source and instance ID, where fewer than `window` other instance IDs of the source had a fresh one since
 abbrev pub AnswersItsOrigin : Type 0
 AnswersItsOrigin =
     (answers : ℕ → Given) (e : EndpointView) (calls : List (Call ℕ)) (source id : ℕ) (a : PendingCommand)

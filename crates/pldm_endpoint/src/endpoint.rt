@@ -199,8 +199,8 @@ impl Endpoint {
     /// # Errors
     ///
     /// Where the packet completes a request whose source and instance ID have a pending command, and only then:
-    /// `BeingPerformed` where it is that command's own request, byte for byte, `Performing` where it is another, also one
-    /// that would be refused in the busy time.
+    /// `BeingPerformed` where it is that command's own request, byte for byte, `Performing` where it is another, even
+    /// if that one would be refused in the busy time.
     /// `Full` exactly where a command would be pending past [`Endpoint::max_pending`], or 2^64 - 1 were handed out.
     /// `Sources` exactly where a request that is no copy comes from a source without room for its answers, and as
     /// many sources have room as [`Bounds::sources`] allow. `OpenMessages` exactly where a packet begins a message of
