@@ -84,9 +84,10 @@ static const struct load loads[] = {{4, 1, 1, 1},  {1, 1, 1, 1},    {1, 200, 1, 
 /* The most bytes of the first of these, a small device with one requester; and those of an open message. */
 enum { SMALL_MOST = 3840, OPEN_MESSAGE = 400 };
 
-/* What docs/C.md says. */
-static size_t bound_of(const struct load *load) {
-    return 256 + load->sources * (700 * load->window + 200) + OPEN_MESSAGE * load->open_messages + 420 * load->commands;
+/* What docs/C.md says, of commands and of requests that are handed on. */
+static size_t bound_of(const struct load *load, bool handed_on) {
+    return (handed_on ? 300 : 256) + load->sources * (700 * load->window + 200) + OPEN_MESSAGE * load->open_messages +
+           (handed_on ? 460 : 420) * load->commands;
 }
 
 /* Each source sends a request with each instance ID, which is refused by its code and kept. */
@@ -121,11 +122,24 @@ static bool hand_out(uint32_t commands) {
     return true;
 }
 
+/* Requests of the greatest length are handed on, each in five packets. */
+static bool hand_on(uint32_t requests) {
+    uint8_t message[320] = {1, 0, 63, 1};
+    for (uint32_t i = 0; i < requests; i++) {
+        message[1] = (uint8_t)(0x80 | i % 32);
+        struct needleoat_step step = {0};
+        for (uint32_t j = 0; j < 5; j++)
+            step = receive_packet((uint8_t)(254 - i / 32), 0, message, sizeof message, j);
+        if (step.kind != NEEDLEOAT_STEP_RESPOND) return false;
+    }
+    return true;
+}
+
 /*
  * Whether an endpoint takes at most what is said, and that of an open message more while one begins that ends the
  * oldest. It leaves none.
  */
-static bool is_within(const struct load *load, size_t bound) {
+static bool is_within(const struct load *load, bool handed_on, size_t bound) {
     const struct needleoat_endpoint_settings loaded = {.own = 9,
                                                        .first_start = true,
                                                        .keep_ms = 6000,
@@ -133,15 +147,18 @@ static bool is_within(const struct load *load, size_t bound) {
                                                        .open_messages = load->open_messages,
                                                        .pending_commands = load->commands,
                                                        .window = load->window,
-                                                       .busy = NEEDLEOAT_BUSY_SETS};
+                                                       .busy = NEEDLEOAT_BUSY_SETS,
+                                                       .pldm_types = handed_on ? (uint64_t)1 << 63 : 0};
     most = 0;
     needleoat_endpoint_new(&loaded, 0, &endpoint);
-    bool well = fill(load->sources) && hand_out(load->commands) && begin_all(load->open_messages);
+    bool well = fill(load->sources) && (handed_on ? hand_on : hand_out)(load->commands);
+    well = well && begin_all(load->open_messages);
     size_t full = most;
     well = begin(load->open_messages) && well;
     needleoat_endpoint_free(&endpoint);
-    printf("heap with window %u, sources %u, open messages %u, commands %u: ", (unsigned)load->window,
-           (unsigned)load->sources, (unsigned)load->open_messages, (unsigned)load->commands);
+    printf("heap with window %u, sources %u, open messages %u, %s %u: ", (unsigned)load->window,
+           (unsigned)load->sources, (unsigned)load->open_messages, handed_on ? "requests handed on" : "commands",
+           (unsigned)load->commands);
     printf("%zu of %zu; %zu while the oldest message ends\n", full, bound, most);
     return well && full <= bound && most <= bound + OPEN_MESSAGE && in_use == 0;
 }
@@ -284,8 +301,10 @@ int main(void) {
     bool well = print_steps();
     well = print_control() && well;
     well = print_windows() && well;
-    for (size_t i = 0; i < sizeof loads / sizeof loads[0]; i++)
-        well = is_within(&loads[i], i == 0 ? SMALL_MOST : bound_of(&loads[i])) && well;
+    for (size_t i = 0; i < sizeof loads / sizeof loads[0]; i++) {
+        well = is_within(&loads[i], false, i == 0 ? SMALL_MOST : bound_of(&loads[i], false)) && well;
+        well = is_within(&loads[i], true, bound_of(&loads[i], true)) && well;
+    }
     well = takes_only_there() && well;
     well = restart_gives_back() && well;
     well = requester_takes_32() && well;
