@@ -546,7 +546,9 @@ enum needleoat_records_fault {
  * Answers GetPDRRepositoryInfo and GetPDR for the records that stand one after another in an array, and returns 0 with
  * the answer in `fields`: with the command's instance ID, type and number, for needleoat_answer_write or
  * needleoat_endpoint_answer. A record is sent in parts of at most `request_count` bytes and 303. With the times of
- * GetPDRRepositoryInfo (timestamp104 of DSP0240) comes what the caller says.
+ * GetPDRRepositoryInfo (timestamp104 of DSP0240) comes what the caller says. The answer may be a refusal, as of a
+ * record that is not there: `code` has its completion code. Of a GetPDR `record_change_number` is not looked at, and of
+ * either command no field of the others.
  *
  * Otherwise it returns the first of enum needleoat_records_fault that holds, and leaves `fields` as it was: of another
  * command 1, whatever the array is. The array is records where it has nothing but whole ones, each with the header
@@ -821,8 +823,9 @@ struct needleoat_step {
  * pending commands are forgotten, as by needleoat_endpoint_restart; the busy time begins where it had an endpoint ID
  * before. A later copy of one of the last 8 accepted (the same bytes of the same source, less than `keep_ms` after it)
  * gets the same answer and changes nothing, also where another was accepted between: where 10 was set and then 11, a
- * copy of the first is answered 'accepted, 10', and the endpoint ID stays 11. While there is no endpoint ID every
- * message of PLDM is dropped.
+ * copy of the first is answered 'accepted, 10', and the endpoint ID stays 11. But the copy has to be sent to the null
+ * endpoint ID or to the present one: sent to an earlier one it is dropped. While there is no endpoint ID every message
+ * of PLDM is dropped.
  */
 struct needleoat_step needleoat_endpoint_receive(struct needleoat_endpoint *endpoint, uint64_t now_ms,
                                                  const uint8_t *packet, uint64_t length,
