@@ -18,13 +18,12 @@ use Rattle.pldm_responder.specs.ResponderStates.{ResponderState, IsHeld}
 use Rattle.pldm_responder.specs.Steps.{assigned_held, received_arrival, received_outcome, restarted_held}
 use Rattle.pldm_responder.specs.declared.outcome.Outcome.{Outcome}
 use Rattle.pldm_endpoint.specs.Histories.{AnsweredInTurn, AssignedInTurn, ComesOf, IsLeftInTurn, NewInTurn, ReceivedInTurn, RefusedInTurn, RestartedInTurn, StepLooksBack, held_once_given, in_turn, with_ended}
-use Rattle.pldm_endpoint.specs.Receiving.{HasAnswered, HasReceived}
+use Rattle.pldm_endpoint.specs.Receiving.{HasReceived}
 use Rattle.pldm_endpoint.specs.Refusing.{refused_by, refused_request, refused_while}
-use Rattle.pldm_endpoint.specs.RequestKeys.{PendingCommands, pending_at, request_key, request_key_of}
-use Rattle.pldm_endpoint.specs.TwoSteps.{EndpointView, IsAnsweredBy, IsItsAnswer, answered_held, asked_now, asking_step, command_at, count_after, handle_of, held_after, held_in, pending_after, pending_by, received_step, request_in, step_by, unasked}
+use Rattle.pldm_endpoint.specs.RequestKeys.{PendingCommands, pending_at, request_key_of}
+use Rattle.pldm_endpoint.specs.TwoSteps.{EndpointView, IsAnsweredBy, IsItsAnswer, answered_held, asked_now, asking_step, command_at, handle_of, held_in, pending_by, request_in, step_by, unasked}
 use Rattle.pldm_endpoint.specs.declared.pending_commands.PendingCommand.{PendingCommand}
 use Rattle.pldm_endpoint.specs.declared.step.CommandHandle.{CommandHandle}
-use Rattle.pldm_endpoint.specs.declared.step.ReceiveRefusal.{ReceiveRefusal}
 use Rattle.pldm_endpoint.specs.declared.step.ReceiveRefusal.TheVariants.{BeingPerformed, OpenMessages, Performing}
 use Rattle.pldm_endpoint.specs.declared.step.Step.{Step}
 use Rattle.pldm_endpoint.specs.declared.step.Step.TheVariants.{Done}
