@@ -1,5 +1,5 @@
 -- A walk ends, and holds no more than it may.
-use Rattle.std.proofs.Common.{◌≡◌, inl, ℕ, zero, suc, ◌-◌, ◌<◌, ◌≤◌, Bool, true, false, if◌then◌else◌, List, [], ◌∷◌, length, slice_get, Option, Some, None, option_map, refl, ap, arith}
+use Rattle.std.proofs.Common.{◌≡◌, inl, ℕ, zero, suc, ◌-◌, ◌<◌, ◌≤◌, Bool, true, false, if◌then◌else◌, List, [], ◌∷◌, length, slice_get, Option, Some, None, option_map, refl, ap, subst, arith}
 use Rattle.std.proofs.lemmas.List.Elements.{All-nil}
 use Rattle.std.proofs.lemmas.Option.{slice_get_past, slice_get_within}
 use Rattle.pldm_records.specs.Fetches.{Fetching, request_for, is_going}
@@ -82,8 +82,8 @@ walk_by most w message (Some command) e walk =
 walks : (messages : List (Option (List ℕ))) → IsWalk (MAX_COMMANDS - length messages) (walked messages)
 walks [] =
     record {
-      bounded = record { few = omega arith; small = All-nil (λ pdr. length pdr ≤ MAX_RECORD_BYTES); part = omega arith; one_each = omega arith; of_records = refl; distinct = λ i j d less within. absurd (omega arith) };
-      is_at = record { room = omega arith; goes = refl; other = inl refl };
+      bounded = record { few = omega arith; small = All-nil (λ pdr. length pdr ≤ MAX_RECORD_BYTES); part = omega arith; one_each = omega arith; distinct = λ i j d less within. absurd (omega arith) };
+      is_at = record { has = record { room = omega arith; goes = refl; other = inl refl; every = refl }; none = refl };
       left = omega arith;
     }
 walks (message ∷ before) =
@@ -99,7 +99,7 @@ pub walks_are_bounded : WalksAreBounded
 walks_are_bounded messages = let walk = walks messages in (walk.bounded.few, walk.bounded.small)
 
 pub walks_find : WalksFind
-walks_find messages = (walks messages).bounded.of_records
+walks_find messages at = subst (λ stage. IsAt stage (walked messages)) at (walks messages).is_at
 
 pub walks_read_once : WalksReadOnce
 walks_read_once messages = (walks messages).bounded.distinct

@@ -1,14 +1,16 @@
 -- What holds of each walk, whatever messages the device answers with.
-use Rattle.std.specs.Prelude.{◌≡◌, ◌≢◌, ℕ, suc, ◌≤◌, false, List, [], ◌∷◌, ◌++◌, length, Option, Some, None}
+use Rattle.std.specs.Prelude.{◌≡◌, ◌≢◌, ℕ, suc, ◌≤◌, false, List, [], ◌∷◌, ◌++◌, length, filter, Option, Some, None}
 use Rattle.std.specs.List.{All, AllPairs}
 use Rattle.pldm_records.specs.Records.{handle_of}
 use Rattle.pldm_records.specs.declared.limits.TheConstants.{MAX_RECORDS, MAX_RECORD_BYTES}
 use Rattle.pldm_wire.specs.Commands.{sets}
 use Rattle.pldm_wire.specs.declared.command.Command.{Command}
 use Rattle.mctpctl_walk.specs.Walks.{Walking, begun, next_command}
-use Rattle.mctpctl_walk.specs.Steps.{after, found_at}
-use Rattle.mctpctl_walk.specs.Subjects.{subject_of}
+use Rattle.mctpctl_walk.specs.Steps.{after, listed}
+use Rattle.mctpctl_walk.specs.Subjects.{found_of}
+use Rattle.mctpctl_walk.specs.Termini.{asked_handle, is_asked}
 use Rattle.mctpctl_walk.specs.declared.limits.TheConstants.{MAX_COMMANDS}
+use Rattle.mctpctl_walk.specs.declared.stage.Stage.TheVariants.{Readings}
 use Rattle.mctpctl_walk.specs.declared.subject.Found.{Found}
 
 -- a walk after these messages, the newest first
@@ -34,11 +36,18 @@ WalksAreBounded =
 -- what the records describe, the first of them at a place
 abbrev pub described : ℕ → List (List ℕ) → List Found
 described place [] = []
-described place (pdr ∷ records) = found_at place (subject_of pdr) ++ described (suc place) records
+described place (pdr ∷ records) = listed (found_of place pdr) ++ described (suc place) records
 
--- what it has found is what its records describe, in their order
+-- what they describe of the asked terminus, where the device answered this terminus ID
+abbrev pub asked_of : Option ℕ → List (List ℕ) → List Found
+asked_of tid records = filter (is_asked (asked_handle tid records)) (described 0 records)
+
+-- once the records were read, what it has found is what they describe of the asked terminus, in their order
 abbrev pub WalksFind : Type 0
-WalksFind = (messages : List (Option (List ℕ))) → (walked messages).found ≡ described 0 (walked messages).records
+WalksFind =
+    (messages : List (Option (List ℕ)))
+    → (walked messages).stage ≡ Readings
+    → (walked messages).found ≡ asked_of (walked messages).tid (walked messages).records
 
 -- no two of its records have one handle: none is read twice
 abbrev pub WalksReadOnce : Type 0

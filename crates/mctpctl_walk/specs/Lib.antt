@@ -2,6 +2,7 @@ pub mod Answered
 pub mod Laws
 pub mod Steps
 pub mod Subjects
+pub mod Termini
 pub mod Types
 pub mod Versions
 pub mod Walks

@@ -1,5 +1,5 @@
 -- What an answer leaves of a walk.
-use Rattle.std.specs.Prelude.{ℕ, ◌+◌, ◌==◌, nat_le, Bool, ◌||◌, List, [], ◌∷◌, ◌++◌, length}
+use Rattle.std.specs.Prelude.{ℕ, ◌+◌, ◌==◌, nat_le, Bool, ◌||◌, List, [], ◌∷◌, ◌++◌, length, filter}
 use Rattle.std.specs.Prelude.{Option, Some, None, Result, Ok, Err, if◌then◌else◌}
 use Rattle.std.specs.List.{list_any}
 use Rattle.pldm_records.specs.Fetches as fetches
@@ -15,7 +15,8 @@ use Rattle.pldm_wire.specs.declared.answer.Answer.TheVariants.{GetPdrRepositoryI
 use Rattle.pldm_wire.specs.declared.assigned.TheConstants.{PLATFORM}
 use Rattle.pldm_wire.specs.declared.command.Command.{Command}
 use Rattle.mctpctl_walk.specs.Answered.{answer_to}
-use Rattle.mctpctl_walk.specs.Subjects.{subject_of}
+use Rattle.mctpctl_walk.specs.Subjects.{found_of}
+use Rattle.mctpctl_walk.specs.Termini.{asked_handle, is_asked}
 use Rattle.mctpctl_walk.specs.Types.{has_type, next_type}
 use Rattle.mctpctl_walk.specs.Versions.{last_version}
 use Rattle.mctpctl_walk.specs.Walks.{Walking, next_command}
@@ -24,7 +25,6 @@ use Rattle.mctpctl_walk.specs.declared.stage.Stage.{Stage}
 use Rattle.mctpctl_walk.specs.declared.stage.Stage.TheVariants.{Tid, Types, Versions, Commands}
 use Rattle.mctpctl_walk.specs.declared.stage.Stage.TheVariants.{Repository, Records, Readings}
 use Rattle.mctpctl_walk.specs.declared.subject.Found.{Found}
-use Rattle.mctpctl_walk.specs.declared.subject.Subject.{Subject}
 
 -- The types, one after the other.
 
@@ -72,33 +72,39 @@ with_repository w _ = record w { stage = Readings }
 abbrev pub has_handle : ℕ → List (List ℕ) → Bool
 has_handle handle records = list_any (λ pdr. handle_of pdr == handle) records
 
--- the next record is asked for where it is another one, and there is room for it
-abbrev pub stage_after : List (List ℕ) → ℕ → Stage
-stage_after records next =
-    if next == NO_RECORD || has_handle next records || nat_le MAX_RECORDS (length records) then Readings else Records
+-- at the end of the records: of what they describe, what is of the asked terminus is read
+abbrev pub ended : Walking → Walking
+ended w = record w { stage = Readings; found = filter (is_asked (asked_handle w.tid w.records)) w.found }
 
-abbrev pub found_at : ℕ → Option Subject → List Found
-found_at place None = []
-found_at place (Some subject) = record { subject = subject; place = place } ∷ []
+abbrev pub listed : Option Found → List Found
+listed None = []
+listed (Some found) = found ∷ []
 
 -- a record more, and the handle of the next one
-abbrev pub with_record : Walking → List ℕ → ℕ → Walking
-with_record w pdr next =
+abbrev pub with_more : Walking → List ℕ → ℕ → Walking
+with_more w pdr next =
     record w {
-      stage = stage_after (w.records ++ pdr ∷ []) next;
       fetch = fetches.begun next;
       records = w.records ++ pdr ∷ [];
-      found = w.found ++ found_at (length w.records) (subject_of pdr);
+      found = w.found ++ listed (found_of (length w.records) pdr);
     }
+
+-- the next record is asked for where it is another one, and there is room for it
+abbrev pub is_end : List (List ℕ) → ℕ → Bool
+is_end records next = next == NO_RECORD || has_handle next records || nat_le MAX_RECORDS (length records)
+
+abbrev pub with_record : Walking → List ℕ → ℕ → Walking
+with_record w pdr next =
+    if is_end (w.records ++ pdr ∷ []) next then ended (with_more w pdr next) else with_more w pdr next
 
 -- by what the fetch gave for the answer, and what it holds then
 abbrev pub with_fetch : Walking → Result FetchState FetchFault → Fetching → Walking
 with_fetch w (Ok More) fetch = record w { fetch = fetch }
 with_fetch w (Ok (Done next)) fetch = with_record w fetch.bytes next
-with_fetch w (Err fault) fetch = record w { stage = Readings; fetch = fetch }
+with_fetch w (Err fault) fetch = ended (record w { fetch = fetch })
 
 abbrev pub with_part : Walking → Option Answer → Walking
-with_part w None = record w { stage = Readings }
+with_part w None = ended w
 with_part w (Some answer) = with_fetch w (taken w.fetch answer) (after_taking w.fetch answer)
 
 -- The readings, values and states (DSP0248): the message is kept, if one came.

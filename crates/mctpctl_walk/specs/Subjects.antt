@@ -8,6 +8,7 @@ use Rattle.pldm_wire.specs.declared.command.Command.{Command}
 use Rattle.pldm_wire.specs.declared.command.Command.TheVariants.{GetSensorReading, GetStateSensorReadings}
 use Rattle.pldm_wire.specs.declared.command.Command.TheVariants.{GetNumericEffecterValue, GetStateEffecterStates}
 use Rattle.mctpctl_walk.specs.declared.limits.TheConstants.{NO_REARM}
+use Rattle.mctpctl_walk.specs.declared.subject.Found.{Found}
 use Rattle.mctpctl_walk.specs.declared.subject.Subject.{Subject}
 use Rattle.mctpctl_walk.specs.declared.subject.Subject.TheVariants.{NumericSensor, StateSensor}
 use Rattle.mctpctl_walk.specs.declared.subject.Subject.TheVariants.{NumericEffecter, StateEffecter}
@@ -19,18 +20,26 @@ question (StateSensor sensor) = GetStateSensorReadings sensor NO_REARM
 question (NumericEffecter effecter) = GetNumericEffecterValue effecter
 question (StateEffecter effecter) = GetStateEffecterStates effecter
 
--- what a record with this data describes
-abbrev pub subject_in : RecordData → Option Subject
-subject_in (contents.NumericSensor sensor) = Some (NumericSensor sensor.sensor_id)
-subject_in (contents.StateSensor sensor) = Some (StateSensor sensor.sensor_id)
-subject_in (contents.NumericEffecter effecter) = Some (NumericEffecter effecter.effecter_id)
-subject_in (contents.StateEffecter effecter) = Some (StateEffecter effecter.effecter_id)
-subject_in _ = None
+-- something of a terminus, described by the record at a place
+abbrev pub found_as : Subject → ℕ → ℕ → Found
+found_as subject terminus place = record { subject = subject; terminus = terminus; place = place }
 
-abbrev pub subject_read : Result PlatformRecord RecordFault → Option Subject
-subject_read (Ok r) = subject_in r.contents
-subject_read (Err fault) = None
+-- what the record at a place describes, which has this data
+abbrev pub found_in : ℕ → RecordData → Option Found
+found_in place (contents.NumericSensor sensor) =
+    Some (found_as (NumericSensor sensor.sensor_id) sensor.terminus_handle place)
+found_in place (contents.StateSensor sensor) =
+    Some (found_as (StateSensor sensor.sensor_id) sensor.terminus_handle place)
+found_in place (contents.NumericEffecter effecter) =
+    Some (found_as (NumericEffecter effecter.effecter_id) effecter.terminus_handle place)
+found_in place (contents.StateEffecter effecter) =
+    Some (found_as (StateEffecter effecter.effecter_id) effecter.terminus_handle place)
+found_in place _ = None
 
--- what a record describes, where it can be read
-unfoldable pub subject_of : List ℕ → Option Subject
-subject_of pdr = subject_read (record_of pdr)
+abbrev pub found_read : ℕ → Result PlatformRecord RecordFault → Option Found
+found_read place (Ok r) = found_in place r.contents
+found_read place (Err fault) = None
+
+-- what the record at a place describes, where it can be read
+unfoldable pub found_of : ℕ → List ℕ → Option Found
+found_of place pdr = found_read place (record_of pdr)

@@ -14,8 +14,8 @@ use Rattle.mctpctl_walk.specs.declared.stage.Stage.TheVariants.{Repository, Reco
 use Rattle.mctpctl_walk.specs.declared.subject.Found.{Found}
 
 -- how far it has come; the terminus ID, the bits of the PLDM types and how many records there are, as answered; the
--- fetch of the next record; the records so far, what they describe, and of each that was asked for the message that
--- answered
+-- fetch of the next record; the records so far, what they describe, at their end of the asked terminus alone, and of
+-- each that was asked for the message that answered
 pub record Walking : Type 0 where
   pub stage : Stage
   pub tid : Option ℕ

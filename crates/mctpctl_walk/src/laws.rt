@@ -14,7 +14,8 @@ pub fn a_walk_only_asks()
     ensures { WalksOnlyAsk }
 {}
 
-/// What a walk has found is what its records describe, in their order.
+/// Once the records were read, what a walk has found, and reads, is what they describe of the asked terminus, in their
+/// order: of the one whose handle the first valid locator of the answered terminus ID gives, else all.
 pub fn a_walk_finds_what_records_describe()
     ensures { WalksFind }
 {}

@@ -8,6 +8,7 @@ mod limits;
 mod message;
 mod stage;
 mod subject;
+mod terminus;
 mod types;
 mod versions;
 mod walk;

@@ -1,7 +1,7 @@
 //! The sensors and effecters that records describe.
 
 ghost use Rattle.std.specs.Prelude.{◌≡◌};
-ghost use Rattle.mctpctl_walk.specs.Subjects.{question, subject_in, subject_of};
+ghost use Rattle.mctpctl_walk.specs.Subjects.{found_as, found_in, found_of, question};
 
 use crate::limits::NO_REARM;
 use pldm_pdr::{RecordData, read};
@@ -45,32 +45,49 @@ impl Subject {
 pub struct Found {
     /// What the record describes.
     pub subject: Subject,
+    /// The handle of the terminus that has it, as the record gives it.
+    pub terminus: u16,
     /// The record's place among those of the walk.
     pub place: usize,
 }
 
-/// The sensor or effecter that a record describes, if it is read as the record of one.
-#[tactic(auto, unfolding(crate::specs::Subjects::subject_of))]
-pub(crate) fn subject_of(pdr: &[u8]) -> Option<Subject>
-    ensures { result ≡ subject_of pdr.now }
+/// The sensor or effecter that the record at a place describes, if it is read as the record of one.
+#[tactic(auto, unfolding(crate::specs::Subjects::found_of))]
+pub(crate) fn found_of(place: usize, pdr: &[u8]) -> Option<Found>
+    ensures { result ≡ found_of place pdr.now }
 {
     match read(pdr) {
-        Ok(record) => subject_in(record.contents()),
+        Ok(record) => found_in(place, record.contents()),
         Err(_) => None,
     }
 }
 
-/// The sensor or effecter of a record with this data, if it is the data of one.
-fn subject_in(contents: &RecordData) -> Option<Subject>
-    ensures { result ≡ subject_in contents.now }
+/// The sensor or effecter of the record at a place with this data, if it is the data of one.
+fn found_in(place: usize, contents: &RecordData) -> Option<Found>
+    ensures { result ≡ found_in place contents.now }
 {
-    match contents {
-        RecordData::NumericSensor(sensor) => Some(Subject::NumericSensor(sensor.sensor_id)),
-        RecordData::StateSensor(sensor) => Some(Subject::StateSensor(sensor.sensor_id)),
-        RecordData::NumericEffecter(effecter) => {
-            Some(Subject::NumericEffecter(effecter.effecter_id))
-        }
-        RecordData::StateEffecter(effecter) => Some(Subject::StateEffecter(effecter.effecter_id)),
-        _ => None,
-    }
+    let (subject, terminus) = match contents {
+        RecordData::NumericSensor(sensor) => (
+            Subject::NumericSensor(sensor.sensor_id),
+            sensor.terminus_handle,
+        ),
+        RecordData::StateSensor(sensor) => (
+            Subject::StateSensor(sensor.sensor_id),
+            sensor.terminus_handle,
+        ),
+        RecordData::NumericEffecter(effecter) => (
+            Subject::NumericEffecter(effecter.effecter_id),
+            effecter.terminus_handle,
+        ),
+        RecordData::StateEffecter(effecter) => (
+            Subject::StateEffecter(effecter.effecter_id),
+            effecter.terminus_handle,
+        ),
+        _ => return None,
+    };
+    Some(Found {
+        subject,
+        terminus,
+        place,
+    })
 }

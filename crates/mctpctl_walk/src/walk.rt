@@ -1,7 +1,7 @@
 //! A walk over a device: it asks for all that the device has, one command after another.
 
 ghost use Rattle.std.specs.Prelude.{◌≡◌, ◌<◌, ◌++◌, true, length, option_map, slice_get, vec_len, vec_capacity, OnErr, OnOk};
-ghost use Rattle.mctpctl_walk.specs.Steps.{after, found_at, stage_after, stage_from, with_part, with_reading, with_repository, with_tid, with_types, with_versions};
+ghost use Rattle.mctpctl_walk.specs.Steps.{after, ended, is_end, listed, stage_from, with_part, with_reading, with_repository, with_tid, with_types, with_versions};
 ghost use Rattle.mctpctl_walk.specs.Walks.{begun, keeps, next_command, reading_at};
 ghost use Rattle.pldm_records.specs.Fetches.{now_of};
 
@@ -10,7 +10,8 @@ use crate::handles::has_handle;
 use crate::limits::{FIRST_RECORD, FIRST_TRANSFER, NO_RECORD};
 use crate::message::Message;
 use crate::stage::Stage;
-use crate::subject::{Found, Subject, subject_of};
+use crate::subject::{Found, found_of};
+use crate::terminus::{asked_handle, keep_asked};
 use crate::types::{has_type, next_type};
 use crate::versions::last_version;
 use crate::whole_record::WholeRecord;
@@ -22,8 +23,8 @@ use std::marker::Model;
 use std::mem;
 
 /// What a device is asked when it is found: its terminus ID and PLDM types, the versions and commands of each, the
-/// records of its repository, and the reading, the value or the states of each sensor and effecter that a record
-/// describes (DSP0240, DSP0248). Whoever holds it sends each command and gives it the message that answered.
+/// records of its repository, and the reading, the value or the states of each sensor and effecter of its own that a
+/// record describes (DSP0240, DSP0248). Whoever holds it sends each command and gives it the message that answered.
 ///
 /// What was not answered is passed over, with what depends on it.
 #[derive(Drop)]
@@ -195,7 +196,7 @@ impl Walk {
         ensures unchanged { OnErr result (self.new ≡ self.old) }
     {
         let Some(answer) = answer else {
-            self.stage = Stage::Readings;
+            self.end_records();
             return Ok(());
         };
         self.records.reserve(1)?;
@@ -205,15 +206,26 @@ impl Walk {
             Ok(FetchState::Done(next)) => {
                 let fetch = mem::replace(&mut self.fetch, Fetch::new(self.alloc, next));
                 let pdr = WholeRecord::new(fetch);
-                let subject = subject_of(pdr.as_slice());
-                push_found(&mut self.found, subject, self.records.len());
+                let found = found_of(self.records.len(), pdr.as_slice());
+                push_found(&mut self.found, found);
                 let _ = self.records.push(pdr); // there is room for it
-                self.stage = stage_after(&self.records, next);
+                if is_end(&self.records, next) {
+                    self.end_records();
+                }
             }
             Err(FetchFault::Memory(memory)) => return Err(memory),
-            Err(_) => self.stage = Stage::Readings,
+            Err(_) => self.end_records(),
         }
         Ok(())
+    }
+
+    /// Ends the records: what they describe of another terminus is not read.
+    fn end_records(&mut self)
+        ensures { self.new ≡ ended self.old }
+    {
+        let handle = asked_handle(self.tid, &self.records);
+        keep_asked(&mut self.found, handle);
+        self.stage = Stage::Readings;
     }
 
     /// Takes the message that answered for a sensor or an effecter, if one came.
@@ -262,7 +274,9 @@ impl Walk {
         }
     }
 
-    /// The sensors and effecters that the records describe, in the order of the records.
+    /// The sensors and effecters that the records describe, in the order of the records; once they were read, those of
+    /// the asked terminus alone: the one whose handle the first valid terminus locator record of the answered terminus
+    /// ID gives (DSP0248, "Terminus locator PDR"). Without such a record all count as its own.
     pub fn found(&self) -> &[Found]
         ensures { result.now ≡ self.now.found }
     {
@@ -281,23 +295,19 @@ impl Walk {
     }
 }
 
-/// Adds what the record at this place describes, if it describes something. There has to be room for it.
-fn push_found(found: &mut Vec<Found>, subject: Option<Subject>, place: usize)
+/// Adds what a record describes, if it describes something. There has to be room for it.
+fn push_found(found: &mut Vec<Found>, one: Option<Found>)
     requires { vec_len found.old < vec_capacity found.old }
-    ensures { found.new.items ≡ found.old.items ++ found_at place subject }
+    ensures { found.new.items ≡ found.old.items ++ listed one }
 {
-    if let Some(subject) = subject {
-        let _ = found.push(Found { subject, place }); // there is room for it
+    if let Some(one) = one {
+        let _ = found.push(one); // there is room for it
     }
 }
 
-/// The stage after these records, of which the last one names the next by its handle.
-fn stage_after(records: &[WholeRecord], next: u32) -> Stage
-    ensures { result ≡ stage_after records.now next }
+/// Whether the records end with these, of which the last one names the next by its handle.
+fn is_end(records: &[WholeRecord], next: u32) -> bool
+    ensures { result ≡ is_end records.now next }
 {
-    if next == NO_RECORD || has_handle(records, next) || records.len() >= MAX_RECORDS {
-        Stage::Readings
-    } else {
-        Stage::Records
-    }
+    next == NO_RECORD || has_handle(records, next) || records.len() >= MAX_RECORDS
 }

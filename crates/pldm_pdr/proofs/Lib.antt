@@ -19,3 +19,4 @@ pub mod SetsRead
 pub mod NamesTaken
 pub mod NameRecords
 pub mod StatesAmong
+mod Constants
