@@ -10,6 +10,14 @@ inner_of port = port.inner
 abbrev pub has_failed : {T : Type 0} → Port T → Bool
 has_failed port = port.failed
 
+-- no byte was taken since the last flush through the port, or since it was made
+abbrev pub is_flushed : {T : Type 0} → Port T → Bool
+is_flushed port = port.flushed
+
+-- where all was flushed before, it is so after
+abbrev pub StaysFlushed : {T : Type 0} → (before after : Port T) → Type 0
+StaysFlushed before after = is_flushed before ≡ true → is_flushed after ≡ true
+
 -- neither port has failed
 abbrev pub BothWork : {R W : Type 0} → Port R → Port W → Type 0
 BothWork reader writer = (has_failed reader ≡ false) × (has_failed writer ≡ false)
@@ -35,3 +43,9 @@ StaysIfTaken result bytes before after =
     IfOk result (λ taken. 0 < taken → has_failed after ≡ has_failed before)
     × OnOk result (length bytes ≡ 0 → has_failed after ≡ has_failed before)
     × (has_failed before ≡ true → has_failed after ≡ true)
+
+-- bytes that were taken wait for a flush; where none were, all is as before
+abbrev pub WaitsIfTaken : {E T : Type 0} → Result ℕ E → (before after : Port T) → Type 0
+WaitsIfTaken result before after =
+    IfOk result (λ taken. 0 < taken → is_flushed after ≡ false)
+    × IfOk result (λ taken. taken ≡ 0 → is_flushed after ≡ is_flushed before)

@@ -1,9 +1,9 @@
-//! A reader or writer that remembers whether a call through it failed.
+//! A reader or writer that remembers whether a call through it failed, and whether what was written is flushed.
 
-ghost use Rattle.std.specs.Prelude.{◌≡◌, true, false, OnOk, OnErr};
+ghost use Rattle.std.specs.Prelude.{◌≡◌, ◌<◌, true, false, length, OnOk, OnErr};
 ghost use Rattle.std.specs.Io.{ReadsAtMost, WritesAtMost};
 ghost use Rattle.std.specs.Io.KnownBytes.{Appends, Keeps, ReadConsumes, WriteAppends};
-ghost use Rattle.mctpctl_input.specs.Ports.{inner_of, has_failed, FailsIfRefused, StaysIfTaken};
+ghost use Rattle.mctpctl_input.specs.Ports.{inner_of, has_failed, is_flushed, FailsIfRefused, StaysIfTaken, WaitsIfTaken};
 
 use std::io;
 use std::io::{Error, ErrorKind, Read, Write};
@@ -14,6 +14,8 @@ use std::io::{Error, ErrorKind, Read, Write};
 pub struct Port<T> {
     inner: T,
     failed: bool,
+    /// No byte was taken since the last flush.
+    flushed: bool,
 }
 
 impl<T> Port<T> {
@@ -21,10 +23,12 @@ impl<T> Port<T> {
     pub fn new(inner: T) -> Port<T>
         ensures holds { inner_of result ≡ inner }
         ensures fresh { has_failed result ≡ false }
+        ensures flushed { is_flushed result ≡ true }
     {
         Port {
             inner,
             failed: false,
+            flushed: true,
         }
     }
 
@@ -39,6 +43,7 @@ impl<T> Port<T> {
     fn fail(&mut self)
         ensures inner { inner_of self.new ≡ inner_of self.old }
         ensures failed { has_failed self.new ≡ true }
+        ensures flushed { is_flushed self.new ≡ is_flushed self.old }
     {
         self.failed = true;
     }
@@ -61,6 +66,7 @@ impl<T: Read> Read for Port<T> {
             buf.new }
         ensures error { OnErr result (has_failed self.new ≡ true) }
         ensures ok { OnOk result (has_failed self.new ≡ has_failed self.old) }
+        ensures flushed { is_flushed self.new ≡ is_flushed self.old }
     {
         let result = self.inner.read(buf);
         if result.is_err() {
@@ -80,11 +86,13 @@ impl<T: Write> Write for Port<T> {
         ensures bytes { WriteAppends (T.contents (inner_of self.old)) (T.contents (inner_of self.new)) result buf.now }
         ensures refused { FailsIfRefused result buf.now self.new }
         ensures taken { StaysIfTaken result buf.now self.old self.new }
+        ensures waits { WaitsIfTaken result self.old self.new }
     {
         let result = self.inner.write(buf);
         match &result {
             Ok(0) if !buf.is_empty() => self.fail(),
-            Ok(_) => {}
+            Ok(0) => {}
+            Ok(_) => self.flushed = false,
             Err(_) => self.fail(),
         }
         result
@@ -97,6 +105,7 @@ impl<T: Write> Write for Port<T> {
             buf.now) }
         ensures error { OnErr result (has_failed self.new ≡ true) }
         ensures ok { OnOk result (has_failed self.new ≡ has_failed self.old) }
+        ensures waits { OnOk result (0 < length buf.now → is_flushed self.new ≡ false) }
     {
         let mut rest = buf;
         while !rest.is_empty() {
@@ -114,10 +123,12 @@ impl<T: Write> Write for Port<T> {
         ensures bytes { Keeps (T.contents (inner_of self.old)) (T.contents (inner_of self.new)) }
         ensures error { OnErr result (has_failed self.new ≡ true) }
         ensures ok { OnOk result (has_failed self.new ≡ has_failed self.old) }
+        ensures flushed { OnOk result (is_flushed self.new ≡ true) }
     {
         let result = self.inner.flush();
-        if result.is_err() {
-            self.fail();
+        match &result {
+            Ok(()) => self.flushed = true,
+            Err(_) => self.fail(),
         }
         result
     }
