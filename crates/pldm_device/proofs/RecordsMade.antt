@@ -42,14 +42,14 @@ passed true x y fault e = cc
 passed false x y fault e = cc
 
 -- the records so far: those before, and more that describe the device
-pub record IsMadeAfter (device : Device) (before : List (List ℕ)) (made : MadeRecords) : Type 0 where
+pub record IsMadeAfter (eid : ℕ) (device : Device) (before : List (List ℕ)) (made : MadeRecords) : Type 0 where
   pub more : List (List ℕ)
   pub joined : made.records ≡ before ++ more
-  pub described : All (IsRecordOf device) more
+  pub described : All (IsRecordOf eid device) more
   pub differ : HandlesDiffer before → HandlesDiffer made.records
 
-pub none_made : (device : Device) (before : List (List ℕ)) → IsMadeAfter device before (made_after before)
-none_made device before = record { more = []; joined = sym (append-nil before); described = All-nil (IsRecordOf device); differ = λ h. h }
+pub none_made : (eid : ℕ) (device : Device) (before : List (List ℕ)) → IsMadeAfter eid device before (made_after before)
+none_made eid device before = record { more = []; joined = sym (append-nil before); described = All-nil (IsRecordOf eid device); differ = λ h. h }
 
 -- a step that is done
 abbrev done : {A : Type 0} → A → Result A FileFault
@@ -62,9 +62,9 @@ kept_records : (m after : MadeRecords) → done m ≡ Ok after → after.records
 kept_records m after e = ap (λ (x : MadeRecords). x.records) (sym (same_done m after e))
 
 -- one more
-pub one_made : (device : Device) (before : List (List ℕ)) (contents : RecordData) (made after : MadeRecords) → IsMadeAfter device before made → Describes device contents → with_made contents made ≡ Ok after → IsMadeAfter device before after
+pub one_made : (eid : ℕ) (device : Device) (before : List (List ℕ)) (contents : RecordData) (made after : MadeRecords) → IsMadeAfter eid device before made → Describes eid device contents → with_made contents made ≡ Ok after → IsMadeAfter eid device before after
 unfolding with_made
-one_made device before contents made after h tells e =
+one_made eid device before contents made after h tells e =
     let a = came (next_handle made.last_handle) (λ handle. record_made contents handle >>= λ pdr. with_room made.records >>= λ room. with_record room pdr >>= λ records. Ok (record { records = records; last_handle = handle })) after e in
     let handle = a.value in
     let b = came (record_made contents handle) (λ pdr. with_room made.records >>= λ room. with_record room pdr >>= λ records. Ok (record { records = records; last_handle = handle })) after a.next in
@@ -80,7 +80,7 @@ one_made device before contents made after h tells e =
     record {
       more = h.more ++ pdr ∷ [];
       joined = records ∙ sym added ∙ ap (λ (x : List (List ℕ)). x ++ pdr ∷ []) (sym room ∙ h.joined) ∙ append_assoc before h.more (pdr ∷ []);
-      described = All-push (IsRecordOf device) h.more pdr h.described (record { handle = handle; contents = contents; spelled = sym whole ∙ sym bytes; described = tells });
+      described = All-push (IsRecordOf eid device) h.more pdr h.described (record { handle = handle; contents = contents; spelled = sym whole ∙ sym bytes; described = tells });
       differ = λ distinct. subst (λ (x : List (List ℕ)). HandlesDiffer x) (sym records) (still_differ c.value pdr d.value d.first (subst (λ (x : List (List ℕ)). HandlesDiffer x) room (h.differ distinct)));
     }
 
@@ -95,13 +95,13 @@ or_has_some found x true e = refl
 or_has_some None x false e = cc
 or_has_some (Some y) x false e = refl
 
-pub sensor_named_made : (device : Device) (before : List (List ℕ)) (id count : ℕ) (name : Option (List ℕ)) (made after : MadeRecords) → IsMadeAfter device before made → IsTrue (has_id id device.numeric_sensors || has_id id device.state_sensors) → sensor_named id count name made ≡ Ok after → IsMadeAfter device before after
-sensor_named_made device before id count None made after h has e = let same : made ≡ after = cc in subst (λ (m : MadeRecords). IsMadeAfter device before m) same h
-sensor_named_made device before id count (Some name) made after h has e = one_made device before _ made after h has e
+pub sensor_named_made : (eid : ℕ) (device : Device) (before : List (List ℕ)) (id count : ℕ) (name : Option (List ℕ)) (made after : MadeRecords) → IsMadeAfter eid device before made → IsTrue (has_id id device.numeric_sensors || has_id id device.state_sensors) → sensor_named id count name made ≡ Ok after → IsMadeAfter eid device before after
+sensor_named_made eid device before id count None made after h has e = let same : made ≡ after = cc in subst (λ (m : MadeRecords). IsMadeAfter eid device before m) same h
+sensor_named_made eid device before id count (Some name) made after h has e = one_made eid device before _ made after h has e
 
-pub effecter_named_made : (device : Device) (before : List (List ℕ)) (id count : ℕ) (name : Option (List ℕ)) (made after : MadeRecords) → IsMadeAfter device before made → IsTrue (has_id id device.numeric_effecters || has_id id device.state_effecters) → effecter_named id count name made ≡ Ok after → IsMadeAfter device before after
-effecter_named_made device before id count None made after h has e = let same : made ≡ after = cc in subst (λ (m : MadeRecords). IsMadeAfter device before m) same h
-effecter_named_made device before id count (Some name) made after h has e = one_made device before _ made after h has e
+pub effecter_named_made : (eid : ℕ) (device : Device) (before : List (List ℕ)) (id count : ℕ) (name : Option (List ℕ)) (made after : MadeRecords) → IsMadeAfter eid device before made → IsTrue (has_id id device.numeric_effecters || has_id id device.state_effecters) → effecter_named id count name made ≡ Ok after → IsMadeAfter eid device before after
+effecter_named_made eid device before id count None made after h has e = let same : made ≡ after = cc in subst (λ (m : MadeRecords). IsMadeAfter eid device before m) same h
+effecter_named_made eid device before id count (Some name) made after h has e = one_made eid device before _ made after h has e
 
 -- sets that are made of lists have their states
 
@@ -125,10 +125,10 @@ twice_mapped state_set [] = refl
 twice_mapped state_set (field ∷ fields) = ap (λ (x : List PossibleStates). possible state_set (states_of_field field) ∷ x) (twice_mapped state_set fields)
 
 -- the records of a thing are more, where its own describes the device, and so does that of its name
-pub thing_step : (device : Device) (before : List (List ℕ)) (default : Entity) (entry : Members) (own : Entity → Bool → Result RecordData FileFault) (named : Option (List ℕ) → MadeRecords → Result MadeRecords FileFault) (made after : MadeRecords) → ((entity : Entity) (has_name : Bool) (contents : RecordData) → own entity has_name ≡ Ok contents → Describes device contents) → ((name : Option (List ℕ)) (more last : MadeRecords) → IsMadeAfter device before more → named name more ≡ Ok last → IsMadeAfter device before last) → IsMadeAfter device before made → thing_made default entry own named made ≡ Ok after → IsMadeAfter device before after
-thing_step device before default entry own named made after tells names h e =
+pub thing_step : (eid : ℕ) (device : Device) (before : List (List ℕ)) (default : Entity) (entry : Members) (own : Entity → Bool → Result RecordData FileFault) (named : Option (List ℕ) → MadeRecords → Result MadeRecords FileFault) (made after : MadeRecords) → ((entity : Entity) (has_name : Bool) (contents : RecordData) → own entity has_name ≡ Ok contents → Describes eid device contents) → ((name : Option (List ℕ)) (more last : MadeRecords) → IsMadeAfter eid device before more → named name more ≡ Ok last → IsMadeAfter eid device before last) → IsMadeAfter eid device before made → thing_made default entry own named made ≡ Ok after → IsMadeAfter eid device before after
+thing_step eid device before default entry own named made after tells names h e =
     let a = came (name_at entry) (λ name. entity_at default entry >>= λ entity. own entity (is_some name) >>= λ contents. with_made contents made >>= λ more. named name more) after e in
     let b = came (entity_at default entry) (λ entity. own entity (is_some a.value) >>= λ contents. with_made contents made >>= λ more. named a.value more) after a.next in
     let c = came (own b.value (is_some a.value)) (λ contents. with_made contents made >>= λ more. named a.value more) after b.next in
     let d = came (with_made c.value made) (λ more. named a.value more) after c.next in
-    names a.value d.value after (one_made device before c.value made d.value h (tells b.value (is_some a.value) c.value c.first) d.first) d.next
+    names a.value d.value after (one_made eid device before c.value made d.value h (tells b.value (is_some a.value) c.value c.first) d.first) d.next

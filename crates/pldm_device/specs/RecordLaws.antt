@@ -82,25 +82,27 @@ pub record DescribesStateEffecter (device : Device) (pdr : StateEffecter) : Type
       ≡ answers.GetStateEffecterStates (map effecter_field effecter.states)
   pub possible : HaveStates effecter.allowed pdr.sets.items
 
--- a record names an ID that the device answers, and says of it what the device does
-abbrev pub Describes : Device → RecordData → Type 0
-Describes device (records.TerminusLocator pdr) = answer device commands.GetTid ≡ answers.GetTid pdr.tid
-Describes device (records.NumericSensor pdr) = DescribesNumericSensor device pdr
-Describes device (records.StateSensor pdr) = DescribesStateSensor device pdr
-Describes device (records.SensorNames pdr) =
+-- A record names an ID that the device answers, and says of it what the device does. That of the terminus names its ID
+-- as the device answers it before any SetTID, and this endpoint ID.
+abbrev pub Describes : ℕ → Device → RecordData → Type 0
+Describes eid device (records.TerminusLocator pdr) =
+    (answer device commands.GetTid ≡ answers.GetTid pdr.tid) × (pdr.eid ≡ eid)
+Describes eid device (records.NumericSensor pdr) = DescribesNumericSensor device pdr
+Describes eid device (records.StateSensor pdr) = DescribesStateSensor device pdr
+Describes eid device (records.SensorNames pdr) =
     IsTrue (has_id pdr.sensor_id device.numeric_sensors || has_id pdr.sensor_id device.state_sensors)
-Describes device (records.NumericEffecter pdr) = DescribesNumericEffecter device pdr
-Describes device (records.StateEffecter pdr) = DescribesStateEffecter device pdr
-Describes device (records.EffecterNames pdr) =
+Describes eid device (records.NumericEffecter pdr) = DescribesNumericEffecter device pdr
+Describes eid device (records.StateEffecter pdr) = DescribesStateEffecter device pdr
+Describes eid device (records.EffecterNames pdr) =
     IsTrue (has_id pdr.effecter_id device.numeric_effecters || has_id pdr.effecter_id device.state_effecters)
-Describes device (records.EntityNames pdr) = Unit {0}
+Describes eid device (records.EntityNames pdr) = Unit {0}
 
 -- the bytes spell such a record
-pub record IsRecordOf (device : Device) (bytes : List ℕ) : Type 0 where
+pub record IsRecordOf (eid : ℕ) (device : Device) (bytes : List ℕ) : Type 0 where
   pub handle : ℕ
   pub contents : RecordData
   pub spelled : bytes ≡ bytes_of (platform_record handle 0 contents)
-  pub described : Describes device contents
+  pub described : Describes eid device contents
 
 -- handles are distinct: each is another than all before it
 
@@ -111,16 +113,17 @@ abbrev pub HandlesDiffer : List (List ℕ) → Type 0
 HandlesDiffer records = AllPairs HaveOtherHandles records
 
 -- the device has these records after those before, and each describes it
-pub record HasMade (before : List (List ℕ)) (made : Device) : Type 0 where
+pub record HasMade (eid : ℕ) (before : List (List ℕ)) (made : Device) : Type 0 where
   pub more : List (List ℕ)
   pub joined : made.records ≡ before ++ more
-  pub described : All (IsRecordOf made) more
+  pub described : All (IsRecordOf eid made) more
 
--- The records that a description has made come after those that it states, and each describes the device.
+-- The records that a description has made come after those that it states, and each describes the device, at the
+-- endpoint ID of the description.
 abbrev pub MadeRecordsDescribe : Type 0
 MadeRecordsDescribe =
     (eid : ℕ) (document : Members) (device made : Device) → with_records eid document device ≡ Ok made
-    → HasMade device.records made
+    → HasMade eid device.records made
 
 -- No two records of a description's device have one handle.
 abbrev pub DescribedHandlesDiffer : Type 0

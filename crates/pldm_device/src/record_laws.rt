@@ -5,7 +5,8 @@ ghost use Rattle.pldm_device.specs.RecordLaws.{DescribedHandlesDiffer, MadeRecor
 
 /// Each record that the table `records` has made names an ID that the device answers: of a numeric sensor or effecter
 /// with the data size and the range that the device has, of one of states with its possible states and no others. The
-/// made records come after those that the description states.
+/// terminus locator has the terminus ID and the endpoint ID of the description: a record does not change, so these two
+/// stay where SetTID or a bus owner gives others. The made records come after those that the description states.
 pub fn made_records_tell_of_the_device()
     ensures { MadeRecordsDescribe }
 {}
