@@ -76,7 +76,7 @@ enum {
     NEEDLEOAT_PART_BYTES = 303,    /* the most bytes of a record in one GetPDR answer */
     NEEDLEOAT_STATES = 8,          /* the most fields of a state sensor or effecter */
     NEEDLEOAT_RECORD_BYTES = 305,  /* the most bytes of a record that is written here */
-    NEEDLEOAT_NAME_UNITS = 140,    /* the most code units of a name */
+    NEEDLEOAT_NAME_UNITS = 127,    /* the most code units of a name: 256 bytes with its end (DSP0240) */
     NEEDLEOAT_I2C_FRAME_BYTES = 259, /* the most bytes of a frame on I2C: 4, a packet of 254, and the PEC */
     NEEDLEOAT_I3C_FRAME_BYTES = 255  /* the most bytes of a frame on I3C: a packet of 254, and the PEC */
 };
@@ -1219,21 +1219,21 @@ NEEDLEOAT_AT(needleoat_state_effecter, init, 18);
 NEEDLEOAT_AT(needleoat_state_effecter, has_description, 19);
 NEEDLEOAT_AT(needleoat_state_effecter, count, 20);
 NEEDLEOAT_AT(needleoat_state_effecter, sets, 22);
-NEEDLEOAT_ASSERT(sizeof(struct needleoat_sensor_name) == 296);
+NEEDLEOAT_ASSERT(sizeof(struct needleoat_sensor_name) == 268);
 NEEDLEOAT_AT(needleoat_sensor_name, record_handle, 0);
 NEEDLEOAT_AT(needleoat_sensor_name, length, 4);
 NEEDLEOAT_AT(needleoat_sensor_name, change_number, 8);
 NEEDLEOAT_AT(needleoat_sensor_name, terminus_handle, 10);
 NEEDLEOAT_AT(needleoat_sensor_name, sensor_id, 12);
 NEEDLEOAT_AT(needleoat_sensor_name, text, 14);
-NEEDLEOAT_ASSERT(sizeof(struct needleoat_effecter_name) == 296);
+NEEDLEOAT_ASSERT(sizeof(struct needleoat_effecter_name) == 268);
 NEEDLEOAT_AT(needleoat_effecter_name, record_handle, 0);
 NEEDLEOAT_AT(needleoat_effecter_name, length, 4);
 NEEDLEOAT_AT(needleoat_effecter_name, change_number, 8);
 NEEDLEOAT_AT(needleoat_effecter_name, terminus_handle, 10);
 NEEDLEOAT_AT(needleoat_effecter_name, effecter_id, 12);
 NEEDLEOAT_AT(needleoat_effecter_name, text, 14);
-NEEDLEOAT_ASSERT(sizeof(struct needleoat_entity_name) == 296);
+NEEDLEOAT_ASSERT(sizeof(struct needleoat_entity_name) == 272);
 NEEDLEOAT_AT(needleoat_entity_name, record_handle, 0);
 NEEDLEOAT_AT(needleoat_entity_name, length, 4);
 NEEDLEOAT_AT(needleoat_entity_name, change_number, 8);

@@ -51,7 +51,7 @@ DESCRIPTIONS = [
         f"line 4, column 1: version0: found '{'00f0f0f1' * 5}..', allowed is hex text of 1 to 7 versions of 4 bytes, since version_checksum appends 4 more",
     ),
     ("tid = 1", "records = 1\ntid = 1", "WrongKind", "line 3, column 1: records: found 1, allowed is a table"),
-    (RECORD, RECORD + "[records]\nname = ''\n", "OutOfRange", "line 29, column 1: records.name: found '', allowed is a text of 1 to 128 printed ASCII characters"),
+    (RECORD, RECORD + "[records]\nname = ''\n", "OutOfRange", "line 29, column 1: records.name: found '', allowed is a text of 1 to 127 printed ASCII characters"),
     (RECORD, RECORD + "[records]\nentity = [1, 2]\n", "OutOfRange", "line 29, column 1: records.entity: found an array of 2, allowed is an array of 3 integers from 0 to 65535"),
     (
         SENSOR,

@@ -102,7 +102,7 @@ def board(rows, run):
 
 # A line of an entry or of the table, and the fault that is reported.
 FAULTS = [
-    ('name = 1', "WrongKind"), ('name = ""', "OutOfRange"), (f'name = "{"x" * 129}"', "OutOfRange"),
+    ('name = 1', "WrongKind"), ('name = ""', "OutOfRange"), (f'name = "{"x" * 128}"', "OutOfRange"),
     ('name = "\u00e4"', "OutOfRange"), ("entity = 1", "WrongKind"), ("entity = [1, 2]", "OutOfRange"),
     ("entity = [1, 2, 65536]", "OutOfRange"), ('entity = [1, "2"]', "WrongKind"),
     ("unit = 256", "OutOfRange"), ('unit = "furlongs"', "OutOfRange"), ("unit = true", "WrongKind"),

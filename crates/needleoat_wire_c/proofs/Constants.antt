@@ -4,7 +4,7 @@ use Rattle.needleoat_wire_c.specs.declared.record_forms.TheConstants.{NAME_UNITS
 use Rattle.needleoat_wire_c.specs.declared.record_writing.TheConstants.{NO_RECORD}
 use Rattle.needleoat_wire_c.specs.declared.records_answer.TheConstants.{NO_RECORDS, OTHER_COMMAND}
 
-name_units : NAME_UNITS ≡ 140
+name_units : NAME_UNITS ≡ 127
 name_units = refl
 
 state_bytes : STATE_BYTES ≡ 32

@@ -5,8 +5,8 @@ use pldm_wire::MAX_STATES;
 /// The most bytes in which the possible states of one set are stated (DSP0248, "possibleStatesSize").
 pub const STATE_BYTES: usize = 32;
 
-/// The most code units of UTF-16 of a name: with its count and its language tag a record has room for as many.
-pub const NAME_UNITS: usize = 140;
+/// The most code units of UTF-16 of a name: its 256 bytes have its end too (DSP0240, "PLDM data types", strUTF-16BE).
+pub const NAME_UNITS: usize = 127;
 
 /// The entity that a record belongs to (DSP0248, "Entity identification information").
 #[repr(C)]
@@ -338,8 +338,8 @@ const _: () = prove!(size_of::<StateSensorFields>() == 308);
 
 const _: () = prove!(size_of::<StateEffecterFields>() == 312);
 
-const _: () = prove!(size_of::<SensorNameFields>() == 296);
+const _: () = prove!(size_of::<SensorNameFields>() == 268);
 
-const _: () = prove!(size_of::<EffecterNameFields>() == 296);
+const _: () = prove!(size_of::<EffecterNameFields>() == 268);
 
-const _: () = prove!(size_of::<EntityNameFields>() == 296);
+const _: () = prove!(size_of::<EntityNameFields>() == 272);

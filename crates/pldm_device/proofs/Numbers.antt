@@ -30,7 +30,7 @@ version_bytes = refl
 most_tid : MAX_TID ≡ 254
 most_tid = refl
 
-most_characters : MAX_NAME ≡ 128
+most_characters : MAX_NAME ≡ 127
 most_characters = refl
 
 most_number : MAX_NUMBER ≡ 65535

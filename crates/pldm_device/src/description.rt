@@ -59,7 +59,7 @@ impl Description {
     /// - the table `records`, which may be missing. Where it is, records are made after those of `pdr`, each with the
     ///   handle after the largest one: a terminus locator; a name of the table's entity, from its key `name`; and then,
     ///   for each sensor and each effecter in the order of the lists, its record and, where it has one, its name. The
-    ///   keys of the table are `name` (1 to 128 printed characters of ASCII) and `entity` (three numbers 0 to 65,535:
+    ///   keys of the table are `name` (1 to 127 printed characters of ASCII) and `entity` (three numbers 0 to 65,535:
     ///   type, instance and container), which an entry without one has too. Those of an entry are `name` and `entity`;
     ///   of a numeric one `unit` (0 to 255, or one of "none", "degrees_c", "volts", "amps", "watts", "joules", "cfm",
     ///   "rpm", "hertz", "seconds", "bits", "bytes", "percent", "pascals" and "counts"), `modifier` (-128 to 127) and,

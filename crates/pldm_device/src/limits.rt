@@ -24,8 +24,8 @@ pub const UUID_BYTES: usize = 16;
 /// The bytes of a version in a control message (DSP0236, "Version field encoding").
 pub const VERSION_BYTES: usize = 4;
 
-/// The most characters of a name in a description; the number is this profile's.
-pub const MAX_NAME: usize = 128;
+/// The most characters of a name: its 256 bytes in UTF-16 have its end too (DSP0240, "PLDM data types", strUTF-16BE).
+pub const MAX_NAME: usize = 127;
 
 /// The greatest number of two bytes, as those of an entity and a state set are.
 pub const MAX_NUMBER: u32 = 65_535;
