@@ -198,10 +198,15 @@ static bool print_steps(void) {
     return true;
 }
 
-/* Whether this asked for no memory since so many growths. */
-static bool none_since(size_t before, const char *what, bool well) {
-    if (growths != before) printf("memory is asked for by %s\n", what);
-    return well && growths == before;
+/* How often memory had been asked for at the last look. */
+static size_t looked_at;
+
+/* Whether this went well, and asked for no memory since then. */
+static bool asked_for_none(const char *what, bool well) {
+    bool none = growths == looked_at;
+    if (!none) printf("memory is asked for by %s\n", what);
+    looked_at = growths;
+    return well && none;
 }
 
 /* Whether memory is asked for only by a source's first request, by what is handed out, and by a message that begins. */
@@ -213,21 +218,22 @@ static bool takes_only_there(void) {
     needleoat_endpoint_new(&settings, 0, &endpoint);
     struct needleoat_step step = get_tid(10, 0);
     bool well = step.kind == NEEDLEOAT_STEP_PERFORM;
-    size_t held = in_use, before = growths;
-    well = none_since(before, "a repeat of a pending one", get_tid(10, 0).reason == NEEDLEOAT_BEING_PERFORMED) && well;
+    size_t held = in_use;
+    looked_at = growths;
+    well = asked_for_none("a repeat of a pending one", get_tid(10, 0).reason == NEEDLEOAT_BEING_PERFORMED) && well;
     bool is_read = needleoat_endpoint_request(&endpoint, &step.handle, &request);
-    well = none_since(before, "a request read back", is_read) && well;
-    well = none_since(before, "an endpoint ID", needleoat_endpoint_eid(&endpoint) == 9) && well;
+    well = asked_for_none("a request read back", is_read) && well;
+    well = asked_for_none("an endpoint ID", needleoat_endpoint_eid(&endpoint) == 9) && well;
     struct needleoat_step sent = needleoat_endpoint_answer(&endpoint, &step.handle, &other, packets);
-    well = none_since(before, "another answer", sent.reason == NEEDLEOAT_NOT_ITS_ANSWER) && well;
+    well = asked_for_none("another answer", sent.reason == NEEDLEOAT_NOT_ITS_ANSWER) && well;
     sent = needleoat_endpoint_answer(&endpoint, &step.handle, &tid, packets);
-    well = none_since(before, "an answer", sent.kind == NEEDLEOAT_STEP_ANSWERED) && well;
+    well = asked_for_none("an answer", sent.kind == NEEDLEOAT_STEP_ANSWERED) && well;
     sent = get_tid(10, 0);
-    well = none_since(before, "a copy", sent.kind == NEEDLEOAT_STEP_ANSWERED && !sent.fresh) && well;
+    well = asked_for_none("a copy", sent.kind == NEEDLEOAT_STEP_ANSWERED && !sent.fresh) && well;
     sent = receive(10, refused, sizeof refused);
-    well = none_since(before, "a refused request", sent.kind == NEEDLEOAT_STEP_ANSWERED && sent.fresh) && well;
+    well = asked_for_none("a refused request", sent.kind == NEEDLEOAT_STEP_ANSWERED && sent.fresh) && well;
     sent = receive_packet(10, 0, two_packets, sizeof two_packets, 1);
-    well = none_since(before, "a dropped packet", sent.kind == NEEDLEOAT_STEP_DROPPED) && well;
+    well = asked_for_none("a dropped packet", sent.kind == NEEDLEOAT_STEP_DROPPED) && well;
     well = get_tid(10, 1).kind == NEEDLEOAT_STEP_PERFORM && in_use <= held && well;
     needleoat_endpoint_free(&endpoint);
     return well && in_use == 0;
@@ -252,13 +258,12 @@ static bool requester_takes_32(void) {
     bool well = true;
     needleoat_requester_new(&requester_settings, &requester);
     printf("heap of a requester at first %zu\n", in_use);
-    size_t before = growths;
     for (uint64_t i = 0; i < 64; i++) {
-        if (i == 32) before = growths;
+        if (i == 32) looked_at = growths;
         well = needleoat_requester_open(&requester, i * 2000, message, sizeof message).refusal == 0 && well;
         well = needleoat_requester_tick(&requester, i * 2000 + 1999, &due) == 0 && due.given_up_count == 1 && well;
     }
-    well = none_since(before, "request 33 of a requester", well);
+    well = asked_for_none("request 33 of a requester", well);
     printf("heap of a requester with 32 requests %zu\n", in_use);
     needleoat_requester_free(&requester);
     return well && in_use == 0;
