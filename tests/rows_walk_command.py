@@ -129,6 +129,36 @@ def joined(rows, place):
     rows.check("walked: its fields are below its last part", well, repr([line[:80] for line in lines]))
 
 
+# Two valid locators, which name terminus 1 by the handle 1 and terminus 2 by the handle 2, and the record of a numeric
+# sensor 1 of terminus 2, in volts, with its name (DSP0248, "Terminus locator PDR").
+TWO_TERMINI = """
+[[pdr]]
+hex = "0400000001010000090002000102000001010a"
+
+[[pdr]]
+hex = '''\
+05000000010200003b00020001001d0001000000000005000000000000000001000000803f000000000000000000000000\
+0000000000803f7f000000000000000000000000'''
+
+[[pdr]]
+hex = "06000000010600001500020001000101656e00004f00740068006500720000"
+
+[[pdr]]
+hex = "07000000010100000900010001010000010109"
+"""
+
+
+def two_termini(rows, place):
+    """A sensor that another terminus has is not read, and gives no row and no name."""
+    place.write("device.toml", text_of("openbmc.toml") + TWO_TERMINI)
+    status, out, err = place.served("walk", *ENDS, *TIMES)
+    answers, table = parts_of(out)
+    ran = (status, err, table)
+    rows.check("walked: two termini", ran == (0, b"", columns(OPENBMC)), repr(ran))
+    readings = [line for line in answers if "GetSensorReading" in line]
+    rows.check("walked: a sensor of another terminus is not read", len(readings) == 1, repr(readings))
+
+
 def refused(rows, place):
     """A sensor of a record that the device has not, a device without records, and nobody."""
     text = text_of("openbmc.toml").replace("3b00010001001d", "3b00010009001d")
@@ -197,7 +227,7 @@ def lossy(rows, place):
     rows.check("walked: over a line that loses bytes", well, repr((status, out, lost)))
 
 
-PARTS = (tables, records, joined, refused, changed, lossy)
+PARTS = (tables, records, joined, two_termini, refused, changed, lossy)
 
 
 def check(rows, program, device):

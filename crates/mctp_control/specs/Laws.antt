@@ -126,7 +126,7 @@ AssignedApart =
     → (first.moment + e.keep ≤ again.moment)
     ⊎ (KEPT_ASSIGNMENTS ≤ length (assigning (after e (first ∷ before)) later))
 
--- two queries of one endpoint, that go to one device with one tag, instance ID and command
+-- two queries of one endpoint, that go to one device with one tag, instance ID and command number; their data may differ
 pub record AskAlike (q other : ControlQuery) : Type 0 where
   pub own : q.own ≡ other.own
   pub device : q.device ≡ other.device
@@ -134,7 +134,7 @@ pub record AskAlike (q other : ControlQuery) : Type 0 where
   pub id : q.id ≡ other.id
   pub command : number_of q.command ≡ number_of other.command
 
--- a packet that answers a query answers none that asks otherwise
+-- a packet that answers a query answers none that is unlike it
 abbrev pub AnswersNoOther : Type 0
 AnswersNoOther =
     (q other : ControlQuery) (bytes message again : List ℕ)

@@ -7,3 +7,4 @@ pub mod RowsLeft
 mod WorkedRows
 mod WorkedTables
 mod WorkedLines
+mod Numbers

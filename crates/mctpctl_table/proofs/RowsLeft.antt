@@ -2,11 +2,11 @@
 use Rattle.std.proofs.Common.{◌≡◌, ℕ, ◌+◌, ◌≤◌, ◌<◌, List, [], ◌∷◌, ◌++◌, length, drop, get_or, map, Option, None, Some, option_map, Vec, Global, ◌∙◌, sym, append_assoc, append-nil, refl}
 use Rattle.std.proofs.lemmas.List.{drop_more}
 use Rattle.std.proofs.Math.ListN.{drop_of_length-le}
-use Rattle.pldm_pdr.specs.Records.{record_of}
 use Rattle.pldm_pdr.specs.declared.possible_states.PossibleStates.{PossibleStates}
+use Rattle.mctpctl_table.specs.NameRecords.{names_of}
 use Rattle.mctpctl_table.specs.Names.{name_text}
 use Rattle.mctpctl_table.specs.Replies.{state_reading}
-use Rattle.mctpctl_table.specs.Rows.{field_row, field_rows, field_state, field_value, name_cell, names_of}
+use Rattle.mctpctl_table.specs.Rows.{field_row, field_rows, field_state, field_value, name_cell}
 use Rattle.mctpctl_table.specs.States.{what_text}
 use Rattle.mctpctl_table.specs.Tables.{Cells, cells}
 use Rattle.mctpctl_table.specs.declared.reading.StateReading.{StateReading}
@@ -19,24 +19,24 @@ bytes_of records = map (λ bytes. bytes.items) records
 -- the record at a place has a name
 pub name_found : (thing : Thing) (place : ℕ) (records : List (Vec ℕ Global)) (i : ℕ) (bytes : Vec ℕ Global) (slice : List ℕ) (found : Option (Vec ℕ Global)) (cell : Vec ℕ Global)
     → i < length records → bytes ≡ get_or records i bytes → slice ≡ bytes.items → found ≡ Some cell
-    → option_map (λ text. text.items) found ≡ option_map (name_text place) (names_of thing (record_of slice))
+    → option_map (λ text. text.items) found ≡ option_map (name_text place) (names_of thing slice)
     → cell.items ≡ name_cell thing place (bytes_of (drop i records))
 unfolding name_cell
 name_found thing place records i bytes slice found cell lt bytes_is slice_is found_is told =
     let left : drop i records ≡ get_or records i bytes ∷ drop (i + 1) records = drop_more records i bytes lt in
-    let named : option_map (name_text place) (names_of thing (record_of bytes.items)) ≡ Some cell.items =
+    let named : option_map (name_text place) (names_of thing bytes.items) ≡ Some cell.items =
     rw (sym slice_is) (sym told ∙ rw found_is refl) in
     rw (left, sym bytes_is, named) refl
 
 -- it has none
 pub name_not_found : (thing : Thing) (place : ℕ) (records : List (Vec ℕ Global)) (i : ℕ) (bytes : Vec ℕ Global) (slice : List ℕ) (found : Option (Vec ℕ Global))
     → i < length records → bytes ≡ get_or records i bytes → slice ≡ bytes.items → found ≡ None
-    → option_map (λ text. text.items) found ≡ option_map (name_text place) (names_of thing (record_of slice))
+    → option_map (λ text. text.items) found ≡ option_map (name_text place) (names_of thing slice)
     → name_cell thing place (bytes_of (drop (i + 1) records)) ≡ name_cell thing place (bytes_of (drop i records))
 unfolding name_cell
 name_not_found thing place records i bytes slice found lt bytes_is slice_is found_is told =
     let left : drop i records ≡ get_or records i bytes ∷ drop (i + 1) records = drop_more records i bytes lt in
-    let unnamed : option_map (name_text place) (names_of thing (record_of bytes.items)) ≡ None =
+    let unnamed : option_map (name_text place) (names_of thing bytes.items) ≡ None =
     rw (sym slice_is) (sym told ∙ rw found_is refl) in
     rw (left, sym bytes_is, unnamed) refl
 

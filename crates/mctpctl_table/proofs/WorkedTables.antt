@@ -7,8 +7,6 @@ use Rattle.mctpctl_decode.specs.UnitNames.{electric_unit_name, unit_name}
 use Rattle.pldm_pdr.specs.Entities.{entity_at}
 use Rattle.pldm_pdr.specs.Fields.{and_then, byte_at, flag_at, list_at, number_at, refused, signed_byte_at, size_at, sized_at}
 use Rattle.pldm_pdr.specs.Measures.{conversion_at, units_at}
-use Rattle.pldm_pdr.specs.NameRecords.{sensor_names_at}
-use Rattle.pldm_pdr.specs.Names.{all_names_end, each_name_end, each_names_end, is_all, name_end, names_end, tag_end, text_end, text_to}
 use Rattle.pldm_pdr.specs.NumericSensors.{numeric_sensor_at, sensor_range_at}
 use Rattle.pldm_pdr.specs.RangeFormats.{format_at}
 use Rattle.pldm_pdr.specs.StateSensors.{state_sensor_at}
@@ -16,12 +14,14 @@ use Rattle.pldm_pdr.specs.StateSets.{composite_at, possible_states_at, sets_at}
 use Rattle.pldm_wire.specs.AnswerReading.{success_of}
 use Rattle.pldm_wire.specs.Responses.{response_of}
 use Rattle.mctpctl_table.specs.Decimals.{size_text}
+use Rattle.mctpctl_table.specs.NameRecords.{names_of}
 use Rattle.mctpctl_table.specs.Names.{name_text, units_text}
-use Rattle.mctpctl_table.specs.Real32s.{fewest, real32_decimal}
-use Rattle.mctpctl_table.specs.Rows.{data_rows, field_row, field_rows, name_cell, names_of, numeric_row, rows_of}
+use Rattle.mctpctl_table.specs.Real32s.{real32_decimal, shortest}
+use Rattle.mctpctl_table.specs.Rows.{data_rows, field_row, field_rows, name_cell, numeric_row, rows_of}
 use Rattle.mctpctl_table.specs.States.{listed, operation_text, possible_from, present_text, state_value_text}
 use Rattle.mctpctl_table.specs.Tables.{line, table_text}
-use Rattle.mctpctl_table.specs.Values.{unit_text, value_of, value_text}
+use Rattle.mctpctl_table.specs.Units.{is_shown, rate_name, unit_text}
+use Rattle.mctpctl_table.specs.Values.{value_of, value_text}
 
 -- sensor 5, state set 260 with the states 1 and 5
 power : List ℕ
@@ -38,7 +38,7 @@ power_answer : List ℕ
 power_answer = 1 ∷ 0 ∷ 2 ∷ 33 ∷ 0 ∷ 1 ∷ 0 ∷ 1 ∷ 1 ∷ 1 ∷ []
 
 row : table_text (rows_of power (power_name ∷ []) (Some power_answer)) ≡ codes "sensor 5  Power  state 1 (set 260: 1, 5)  enabled\n"
-unfolding power power_name power_answer data_rows field_row field_rows name_cell names_of name_text units_text and_then byte_at flag_at list_at number_at refused entity_at sensor_names_at all_names_end each_name_end each_names_end is_all name_end names_end tag_end text_end text_to state_sensor_at composite_at possible_states_at sets_at success_of response_of listed operation_text possible_from state_value_text line digits encode_utf8 utf16_chars
+unfolding power power_name power_answer data_rows field_row field_rows name_cell names_of name_text units_text and_then byte_at flag_at list_at number_at refused entity_at state_sensor_at composite_at possible_states_at sets_at success_of response_of listed operation_text possible_from state_value_text line digits encode_utf8 utf16_chars
 row = refl
 
 -- no message came
@@ -58,5 +58,5 @@ inlet_answer : List ℕ
 inlet_answer = 1 ∷ 0 ∷ 2 ∷ 17 ∷ 0 ∷ 3 ∷ 1 ∷ 0 ∷ 8 ∷ 1 ∷ 8 ∷ 159 ∷ 1 ∷ []
 
 warm : table_text (rows_of inlet (power_name ∷ []) (Some inlet_answer)) ≡ codes "sensor 2  -  41.5 degrees_c  upperWarning, disabled\n"
-unfolding power_name inlet inlet_answer data_rows numeric_row name_cell names_of and_then byte_at signed_byte_at flag_at list_at number_at sized_at size_at refused entity_at units_at conversion_at sensor_range_at format_at numeric_sensor_at sensor_names_at all_names_end each_name_end each_names_end is_all name_end names_end tag_end text_end text_to success_of response_of operation_text present_text line digits value_text value_of unit_text unit_name electric_unit_name real32_decimal fewest size_text
+unfolding power_name inlet inlet_answer data_rows numeric_row name_cell names_of and_then byte_at signed_byte_at flag_at list_at number_at sized_at size_at refused entity_at units_at conversion_at sensor_range_at format_at numeric_sensor_at success_of response_of operation_text present_text line digits value_text value_of is_shown rate_name unit_text unit_name electric_unit_name real32_decimal shortest size_text
 warm = refl

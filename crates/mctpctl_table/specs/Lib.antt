@@ -1,9 +1,11 @@
 pub mod Decimals
 pub mod Real32s
+pub mod Units
 pub mod Values
 pub mod Replies
 pub mod States
 pub mod Names
+pub mod NameRecords
 pub mod Tables
 pub mod Marks
 pub mod Logs

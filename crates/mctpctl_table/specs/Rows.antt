@@ -6,12 +6,10 @@ use Rattle.pldm_pdr.specs.declared.conversion.Conversion.{Conversion}
 use Rattle.pldm_pdr.specs.declared.data.RecordData.{RecordData}
 use Rattle.pldm_pdr.specs.declared.data.RecordData.TheVariants.{NumericSensor, StateSensor, NumericEffecter}
 use Rattle.pldm_pdr.specs.declared.data.RecordData.TheVariants.{StateEffecter}
-use Rattle.pldm_pdr.specs.declared.data.RecordData.TheVariants.{SensorNames, EffecterNames}
 use Rattle.pldm_pdr.specs.declared.fault.RecordFault.{RecordFault}
-use Rattle.pldm_pdr.specs.declared.names.EffecterNames as effecter_names
-use Rattle.pldm_pdr.specs.declared.names.SensorNames as sensor_names
 use Rattle.pldm_pdr.specs.declared.possible_states.PossibleStates.{PossibleStates}
 use Rattle.pldm_pdr.specs.declared.units.Units.{Units}
+use Rattle.mctpctl_table.specs.NameRecords.{names_of}
 use Rattle.mctpctl_table.specs.Names.{name_text}
 use Rattle.mctpctl_table.specs.Replies.{numeric_reading, reply_to, state_reading}
 use Rattle.mctpctl_table.specs.States.{missing_text, numeric_kind, operation_text, state_kind, state_value_text}
@@ -24,31 +22,12 @@ use Rattle.mctpctl_table.specs.declared.reply.Reply.{Reply}
 use Rattle.mctpctl_table.specs.declared.thing.Thing.{Thing}
 use Rattle.mctpctl_table.specs.declared.thing.Thing.TheVariants.{Sensor, Effecter}
 
--- the auxiliary names of a sensor or an effecter, where a record has them
-
-abbrev pub names_of_sensor : Thing → sensor_names.SensorNames → Option (List ℕ)
-names_of_sensor (Sensor id) names = if names.sensor_id == id then Some names.names.items else None
-names_of_sensor (Effecter id) names = None
-
-abbrev pub names_of_effecter : Thing → effecter_names.EffecterNames → Option (List ℕ)
-names_of_effecter (Sensor id) names = None
-names_of_effecter (Effecter id) names = if names.effecter_id == id then Some names.names.items else None
-
-abbrev pub names_in : Thing → RecordData → Option (List ℕ)
-names_in thing (SensorNames names) = names_of_sensor thing names
-names_in thing (EffecterNames names) = names_of_effecter thing names
-names_in thing contents = None
-
-unfoldable pub names_of : Thing → Result PlatformRecord RecordFault → Option (List ℕ)
-names_of thing (Ok r) = names_in thing r.contents
-names_of thing (Err fault) = None
-
 -- The name of the sensor or effecter at a place of a composite one: the first of the first record that has its names; a
 -- dash where there is none.
 unfoldable pub name_cell : Thing → ℕ → List (List ℕ) → List ℕ
 name_cell thing place [] = 45 ∷ []
 name_cell thing place (bytes ∷ records) =
-    unwrap_or (option_map (name_text place) (names_of thing (record_of bytes))) (name_cell thing place records)
+    unwrap_or (option_map (name_text place) (names_of thing bytes)) (name_cell thing place records)
 
 -- a numeric sensor or effecter
 
@@ -98,12 +77,13 @@ state_rows thing sets records message =
 
 unfoldable pub data_rows : RecordData → List (List ℕ) → Option (List ℕ) → List Cells
 data_rows (NumericSensor sensor) records message =
-    numeric_rows (Sensor sensor.sensor_id) sensor.conversion sensor.units records message
+    numeric_rows (Sensor sensor.terminus_handle sensor.sensor_id) sensor.conversion sensor.units records message
 data_rows (NumericEffecter effecter) records message =
-    numeric_rows (Effecter effecter.effecter_id) effecter.conversion effecter.units records message
-data_rows (StateSensor sensor) records message = state_rows (Sensor sensor.sensor_id) sensor.sets.items records message
+    numeric_rows (Effecter effecter.terminus_handle effecter.effecter_id) effecter.conversion effecter.units records message
+data_rows (StateSensor sensor) records message =
+    state_rows (Sensor sensor.terminus_handle sensor.sensor_id) sensor.sets.items records message
 data_rows (StateEffecter effecter) records message =
-    state_rows (Effecter effecter.effecter_id) effecter.sets.items records message
+    state_rows (Effecter effecter.terminus_handle effecter.effecter_id) effecter.sets.items records message
 data_rows contents records message = []
 
 abbrev pub rows_in : Result PlatformRecord RecordFault → List (List ℕ) → Option (List ℕ) → List Cells

@@ -18,18 +18,18 @@ use Rattle.mctpctl_table.specs.declared.thing.Thing.{Thing}
 use Rattle.mctpctl_table.specs.declared.thing.Thing.TheVariants.{Sensor, Effecter}
 
 abbrev pub what_text : Thing → List ℕ
-what_text (Sensor id) = codes "sensor " ++ decimal id
-what_text (Effecter id) = codes "effecter " ++ decimal id
+what_text (Sensor terminus id) = codes "sensor " ++ decimal id
+what_text (Effecter terminus id) = codes "effecter " ++ decimal id
 
 -- the command that asks a numeric one, and the one that asks a state one
 
 abbrev pub numeric_kind : Thing → TypeAndCommand
-numeric_kind (Sensor id) = of_type PLATFORM GET_SENSOR_READING
-numeric_kind (Effecter id) = of_type PLATFORM GET_NUMERIC_EFFECTER_VALUE
+numeric_kind (Sensor terminus id) = of_type PLATFORM GET_SENSOR_READING
+numeric_kind (Effecter terminus id) = of_type PLATFORM GET_NUMERIC_EFFECTER_VALUE
 
 abbrev pub state_kind : Thing → TypeAndCommand
-state_kind (Sensor id) = of_type PLATFORM GET_STATE_SENSOR_READINGS
-state_kind (Effecter id) = of_type PLATFORM GET_STATE_EFFECTER_STATES
+state_kind (Sensor terminus id) = of_type PLATFORM GET_STATE_SENSOR_READINGS
+state_kind (Effecter terminus id) = of_type PLATFORM GET_STATE_EFFECTER_STATES
 
 -- a state by its name, else by its number
 abbrev pub named : Option (List ℕ) → ℕ → List ℕ
@@ -37,8 +37,8 @@ named (Some name) state = name
 named None state = codes "state " ++ decimal state
 
 unfoldable pub operation_text : Thing → ℕ → List ℕ
-operation_text (Sensor id) state = named (sensor_operation_name state) state
-operation_text (Effecter id) state = named (effecter_state_name state) state
+operation_text (Sensor terminus id) state = named (sensor_operation_name state) state
+operation_text (Effecter terminus id) state = named (effecter_state_name state) state
 
 -- the operational state after a present one, unless it is 0, enabled
 abbrev pub unless_enabled : Thing → ℕ → List ℕ

@@ -1,13 +1,13 @@
 -- The value of a number of a numeric sensor or effecter, with its unit (DSP0248, "Numeric sensor PDR" and "Numeric
 -- effecter PDR").
-use Rattle.std.specs.Prelude.{ℕ, ◌==◌, ◌||◌, ℤ, pos, ◌-ℤ◌, List, [], ◌∷◌, ◌++◌, codes, Option, None, Some}
+use Rattle.std.specs.Prelude.{ℕ, ℤ, pos, ◌-ℤ◌, List, ◌++◌, codes, Option, None, Some}
 use Rattle.std.specs.Prelude.{if◌then◌else◌}
 use Rattle.std.specs.Fmt.{signed_decimal}
-use Rattle.mctpctl_decode.specs.UnitNames.{unit_name}
 use Rattle.pldm_pdr.specs.declared.conversion.Conversion.{Conversion}
 use Rattle.pldm_pdr.specs.declared.units.Units.{Units}
 use Rattle.mctpctl_table.specs.Decimals.{and_then, decimal_text, product, sum}
 use Rattle.mctpctl_table.specs.Real32s.{real32_decimal}
+use Rattle.mctpctl_table.specs.Units.{is_shown, unit_text}
 use Rattle.mctpctl_table.specs.declared.decimal.Decimal.{Decimal}
 use Rattle.mctpctl_table.specs.declared.value.Value.{Value}
 
@@ -27,17 +27,14 @@ unfoldable pub value_of : Conversion → Units → ℤ → Option Value
 value_of conversion units number =
     if conversion.is_linear then and_then (converted conversion number) (λ d. Some (scaled units d)) else None
 
-abbrev pub word : Option (List ℕ) → List ℕ
-word None = []
-word (Some name) = 32 ∷ name
-
--- a space and the name of a unit: 0 says none, and 1 does not say it
-unfoldable pub unit_text : ℕ → List ℕ
-unit_text unit = if (unit == 0) || (unit == 1) then [] else word (unit_name unit)
+-- the number as it is
+abbrev pub raw_text : ℤ → List ℕ
+raw_text number = signed_decimal number ++ codes " raw"
 
 abbrev pub text_of : Units → ℤ → Option Value → List ℕ
-text_of units number None = signed_decimal number ++ codes " raw"
-text_of units number (Some value) = decimal_text value.number value.exponent ++ unit_text units.base_unit
+text_of units number None = raw_text number
+text_of units number (Some value) =
+    if is_shown units then decimal_text value.number value.exponent ++ unit_text units else raw_text number
 
 -- the value with its unit, else the number as it is
 unfoldable pub value_text : Conversion → Units → ℤ → List ℕ

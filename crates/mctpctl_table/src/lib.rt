@@ -17,6 +17,7 @@ mod state_text;
 mod table;
 mod text;
 mod thing;
+mod unit;
 mod value;
 
 pub use table::Table;

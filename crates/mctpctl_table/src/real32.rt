@@ -1,7 +1,7 @@
 //! A real32 (IEEE 754, binary32) as the shortest decimal that is rounded to it.
 
 ghost use Rattle.std.specs.Prelude.{◌≡◌, ◌≤◌, ◌<◌, ◌+◌, ◌*◌, ◌^◌, IfSome};
-ghost use Rattle.mctpctl_table.specs.Real32s.{fewest, is_rounded, nearest, real32_decimal, with_sign};
+ghost use Rattle.mctpctl_table.specs.Real32s.{is_rounded, nearest, real32_decimal, shortest, with_sign};
 
 use crate::decimal::{Decimal, MAX_PLACES, power_of_ten};
 
@@ -40,15 +40,16 @@ fn power_of_two(power: u32) -> u64
 }
 
 /// The digits and places of the shortest decimal that is rounded to n / unit.
+#[tactic(auto, unfolding(crate::specs::Real32s::shortest))]
 fn shortest(n: u64, unit: u64) -> Option<(u64, u8)>
-    requires n { n < 2 ^ 24 }
+    requires n { (0 < n) × (n < 2 ^ 24) }
     requires unit { (0 < unit) × (unit ≤ 2 ^ 60) }
-    ensures value { result ≡ fewest (MAX_PLACES + 1) 0 n unit }
+    ensures value { result ≡ shortest n unit }
     ensures places { IfSome result (λ found. found.1 ≤ MAX_PLACES) }
 {
     for places in 0..MAX_PLACES + 1 {
         let scale = power_of_ten(places);
-        let digits = nearest(n, unit, scale);
+        let digits = nearest(n * scale, unit);
         if is_rounded(n, unit, scale, digits) {
             return Some((digits, places));
         }
@@ -56,35 +57,40 @@ fn shortest(n: u64, unit: u64) -> Option<(u64, u8)>
     None
 }
 
-/// The digits of the decimal nearest to n / unit, in parts of 1 / scale; of two that are equally near, the even one.
-fn nearest(n: u64, unit: u64, scale: u64) -> u64
-    requires n { n < 2 ^ 24 }
-    requires unit { (0 < unit) × (unit ≤ 2 ^ 60) }
-    requires scale { scale ≤ 10_000_000_000 }
-    ensures value { result ≡ nearest n unit scale }
-    ensures near { 2 * (result * unit) ≤ 2 * (n * scale) + unit }
+/// The whole number nearest to a / b; of two that are as near, the even one.
+fn nearest(a: u64, b: u64) -> u64
+    requires a { a ≤ 2 ^ 58 }
+    requires b { (0 < b) × (b ≤ 2 ^ 60) }
+    ensures value { result ≡ nearest a b }
+    ensures near { 2 * (result * b) ≤ 2 * a + b }
 {
-    let twice = 2 * (n * scale) + unit;
-    let up = twice / (2 * unit);
-    if twice % (2 * unit) == 0 {
-        up - up % 2
+    let (down, rest) = (a / b, a % b);
+    if 2 * rest < b {
+        down
+    } else if b < 2 * rest {
+        down + 1
+    } else if down % 2 == 0 {
+        down
     } else {
-        up
+        down + 1
     }
 }
 
-/// Whether a decimal is rounded to n / unit.
+/// Whether the real32 nearest to digits / scale is n / unit.
 fn is_rounded(n: u64, unit: u64, scale: u64, digits: u64) -> bool
-    requires n { n < 2 ^ 24 }
+    requires n { (0 < n) × (n < 2 ^ 24) }
     requires unit { (0 < unit) × (unit ≤ 2 ^ 60) }
     requires scale { scale ≤ 10_000_000_000 }
     requires near { 2 * (digits * unit) ≤ 2 * (n * scale) + unit }
     ensures { result ≡ is_rounded n unit scale digits }
 {
-    let number = n * scale;
-    let decimal = digits * unit;
-    let half_steps = if n == 0x80_0000 { 1 } else { 2 };
-    4 * decimal < 4 * number + 2 * scale && 4 * number < 4 * decimal + half_steps * scale
+    let lower = if n == 0x80_0000 {
+        4 * n - 1
+    } else {
+        4 * n - 2
+    };
+    let decimal = 4 * (digits * unit);
+    lower * scale < decimal && decimal < (4 * n + 2) * scale
 }
 
 /// Digits and places with a sign.

@@ -1,16 +1,28 @@
 //! The name of a sensor or an effecter among records.
 
-ghost use Rattle.std.specs.Prelude.{◌≡◌, ◌∷◌, [], IfOk, map, option_map};
-ghost use Rattle.pldm_pdr.specs.Records.{record_of};
+ghost use Rattle.std.specs.Prelude.{◌≡◌, ◌≤◌, ◌<◌, ◌+◌, ◌∷◌, [], IfOk, length, map, option_map};
+ghost use Rattle.mctpctl_table.specs.NameRecords.{has_header, is_for, is_names_record, names_of, number_at};
 ghost use Rattle.mctpctl_table.specs.Names.{name_text};
-ghost use Rattle.mctpctl_table.specs.Rows.{name_cell, names_in, names_of, names_of_effecter, names_of_sensor};
+ghost use Rattle.mctpctl_table.specs.Rows.{name_cell};
 
 use crate::name::name_text;
 use crate::text::push_text;
 use crate::thing::Thing;
 use mctp_packet::Memory;
-use pldm_pdr::{EffecterNames, RecordData, SensorNames};
+use pldm_pdr::RECORD_HEADER;
 use std::alloc::Global;
+
+/// The version of a record's header (DSP0248, "PDRHeaderVersion").
+pub(crate) const HEADER_VERSION: u8 = 1;
+
+/// The type of a record of a sensor's auxiliary names (DSP0248, "PDR type values").
+pub(crate) const SENSOR_NAMES: u8 = 6;
+
+/// The type of a record of an effecter's auxiliary names (DSP0248, "PDR type values").
+pub(crate) const EFFECTER_NAMES: u8 = 13;
+
+/// Where the names begin in such a record: after the header, the terminus handle and the ID.
+pub(crate) const NAMES_PLACE: usize = 14;
 
 /// The name of the sensor or effecter at a place of a composite one: the first of the first record that has its names;
 /// a dash where there is none.
@@ -40,7 +52,6 @@ pub(crate) fn dash(alloc: Global) -> Result<Vec<u8>, Memory>
 }
 
 /// The name that a record's bytes have.
-#[tactic(auto, unfolding(crate::specs::Rows::names_of))]
 fn name_in_record(
     alloc: Global,
     thing: &Thing,
@@ -48,25 +59,9 @@ fn name_in_record(
     bytes: &[u8],
 ) -> Result<Option<Vec<u8>>, Memory>
     ensures { IfOk result (λ cell. option_map (λ text. text.items) cell
-        ≡ option_map (name_text place) (names_of thing.now (record_of bytes.now))) }
+        ≡ option_map (name_text place) (names_of thing.now bytes.now)) }
 {
-    match pldm_pdr::read(bytes) {
-        Ok(record) => name_in_data(alloc, thing, place, record.contents()),
-        Err(_) => Ok(None),
-    }
-}
-
-/// The name that a record has.
-fn name_in_data(
-    alloc: Global,
-    thing: &Thing,
-    place: usize,
-    contents: &RecordData,
-) -> Result<Option<Vec<u8>>, Memory>
-    ensures { IfOk result (λ cell. option_map (λ text. text.items) cell
-        ≡ option_map (name_text place) (names_in thing.now contents.now)) }
-{
-    match names_in(thing, contents) {
+    match names_of(thing, bytes) {
         Some(names) => {
             let text = name_text(alloc, place, names)?;
             Ok(Some(text))
@@ -75,31 +70,55 @@ fn name_in_data(
     }
 }
 
-/// The names that a record has of a sensor or an effecter.
-fn names_in<'a>(thing: &Thing, contents: &'a RecordData) -> Option<&'a [u8]>
-    ensures { option_map (λ names. names.now) result ≡ names_in thing.now contents.now }
+/// The names of a sensor or an effecter, where a record's bytes have them.
+#[tactic(auto, unfolding(crate::specs::NameRecords::names_of))]
+fn names_of<'a>(thing: &Thing, bytes: &'a [u8]) -> Option<&'a [u8]>
+    ensures { option_map (λ names. names.now) result ≡ names_of thing.now bytes.now }
 {
-    match contents {
-        RecordData::SensorNames(names) => names_of_sensor(thing, names),
-        RecordData::EffecterNames(names) => names_of_effecter(thing, names),
-        _ => None,
+    if bytes.len() >= NAMES_PLACE && is_names_record(thing, bytes) {
+        Some(&bytes[NAMES_PLACE..])
+    } else {
+        None
     }
 }
 
-fn names_of_sensor<'a>(thing: &Thing, names: &'a SensorNames) -> Option<&'a [u8]>
-    ensures { option_map (λ names. names.now) result ≡ names_of_sensor thing.now names.now }
+/// Whether this is a record of the names of a sensor or an effecter.
+fn is_names_record(thing: &Thing, bytes: &[u8]) -> bool
+    requires { NAMES_PLACE ≤ length bytes.now }
+    ensures { result ≡ is_names_record thing.now bytes.now }
 {
     match thing {
-        Thing::Sensor(id) if names.sensor_id == *id => Some(names.names.as_slice()),
-        _ => None,
+        Thing::Sensor { terminus, id } => {
+            has_header(SENSOR_NAMES, bytes) && is_for(*terminus, *id, bytes)
+        }
+        Thing::Effecter { terminus, id } => {
+            has_header(EFFECTER_NAMES, bytes) && is_for(*terminus, *id, bytes)
+        }
     }
 }
 
-fn names_of_effecter<'a>(thing: &Thing, names: &'a EffecterNames) -> Option<&'a [u8]>
-    ensures { option_map (λ names. names.now) result ≡ names_of_effecter thing.now names.now }
+/// Whether a record's header is of this type, and counts the bytes after it.
+fn has_header(type_number: u8, bytes: &[u8]) -> bool
+    requires { NAMES_PLACE ≤ length bytes.now }
+    ensures { result ≡ has_header type_number bytes.now }
 {
-    match thing {
-        Thing::Effecter(id) if names.effecter_id == *id => Some(names.names.as_slice()),
-        _ => None,
-    }
+    bytes[4] == HEADER_VERSION
+        && bytes[5] == type_number
+        && usize::from(number_at(bytes, 8)) == bytes.len() - RECORD_HEADER
+}
+
+/// Whether a record of names is for this terminus and this ID.
+fn is_for(terminus: u16, id: u16, bytes: &[u8]) -> bool
+    requires { NAMES_PLACE ≤ length bytes.now }
+    ensures { result ≡ is_for terminus id bytes.now }
+{
+    number_at(bytes, 10) == terminus && number_at(bytes, 12) == id
+}
+
+/// Two bytes as a number, the lower one first.
+fn number_at(bytes: &[u8], place: usize) -> u16
+    requires { place + 1 < length bytes.now }
+    ensures { result ≡ number_at bytes.now place }
+{
+    u16::from(bytes[place]) + 256 * u16::from(bytes[place + 1])
 }

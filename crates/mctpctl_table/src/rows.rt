@@ -48,7 +48,10 @@ fn push_data_rows(
 {
     match contents {
         RecordData::NumericSensor(sensor) => {
-            let thing = Thing::Sensor(sensor.sensor_id);
+            let thing = Thing::Sensor {
+                terminus: sensor.terminus_handle,
+                id: sensor.sensor_id,
+            };
             push_numeric_row(
                 rows,
                 alloc,
@@ -60,7 +63,10 @@ fn push_data_rows(
             )
         }
         RecordData::NumericEffecter(effecter) => {
-            let thing = Thing::Effecter(effecter.effecter_id);
+            let thing = Thing::Effecter {
+                terminus: effecter.terminus_handle,
+                id: effecter.effecter_id,
+            };
             push_numeric_row(
                 rows,
                 alloc,
@@ -72,11 +78,17 @@ fn push_data_rows(
             )
         }
         RecordData::StateSensor(sensor) => {
-            let thing = Thing::Sensor(sensor.sensor_id);
+            let thing = Thing::Sensor {
+                terminus: sensor.terminus_handle,
+                id: sensor.sensor_id,
+            };
             push_state_rows(rows, alloc, &thing, &sensor.sets, records, message)
         }
         RecordData::StateEffecter(effecter) => {
-            let thing = Thing::Effecter(effecter.effecter_id);
+            let thing = Thing::Effecter {
+                terminus: effecter.terminus_handle,
+                id: effecter.effecter_id,
+            };
             push_state_rows(rows, alloc, &thing, &effecter.sets, records, message)
         }
         _ => Ok(()),

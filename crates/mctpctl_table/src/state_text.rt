@@ -36,8 +36,8 @@ pub(crate) fn push_operation(out: &mut Vec<u8>, thing: &Thing, state: u8) -> Res
     ensures { OnOk result (out.new.items ≡ out.old.items ++ operation_text thing.now state) }
 {
     match thing {
-        Thing::Sensor(_) => push_named(out, sensor_operation_name(state), state),
-        Thing::Effecter(_) => push_named(out, effecter_state_name(state), state),
+        Thing::Sensor { .. } => push_named(out, sensor_operation_name(state), state),
+        Thing::Effecter { .. } => push_named(out, effecter_state_name(state), state),
     }
 }
 

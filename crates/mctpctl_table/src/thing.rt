@@ -1,4 +1,4 @@
-//! A sensor or an effecter by its ID, and the command that reads it.
+//! A sensor or an effecter by its terminus and its ID, and the command that reads it.
 
 ghost use Rattle.std.specs.Prelude.{◌≡◌, ◌++◌, OnOk};
 ghost use Rattle.pldm_wire.specs.Commands.{kind_of};
@@ -8,11 +8,11 @@ use crate::text::{push_number, push_text};
 use mctp_packet::Memory;
 use pldm_wire::Command;
 
-/// A sensor or an effecter, by its ID.
+/// A sensor or an effecter, by the handle of the terminus that has it, and its ID there.
 #[derive(Clone, Copy, Debug)]
 pub(crate) enum Thing {
-    Sensor(u16),
-    Effecter(u16),
+    Sensor { terminus: u16, id: u16 },
+    Effecter { terminus: u16, id: u16 },
 }
 
 impl Thing {
@@ -21,11 +21,11 @@ impl Thing {
         ensures { kind_of result ≡ numeric_kind self.now }
     {
         match self {
-            Thing::Sensor(id) => Command::GetSensorReading {
+            Thing::Sensor { id, .. } => Command::GetSensorReading {
                 sensor: *id,
                 rearm: 0,
             },
-            Thing::Effecter(id) => Command::GetNumericEffecterValue { effecter: *id },
+            Thing::Effecter { id, .. } => Command::GetNumericEffecterValue { effecter: *id },
         }
     }
 
@@ -34,11 +34,11 @@ impl Thing {
         ensures { kind_of result ≡ state_kind self.now }
     {
         match self {
-            Thing::Sensor(id) => Command::GetStateSensorReadings {
+            Thing::Sensor { id, .. } => Command::GetStateSensorReadings {
                 sensor: *id,
                 rearm: 0,
             },
-            Thing::Effecter(id) => Command::GetStateEffecterStates { effecter: *id },
+            Thing::Effecter { id, .. } => Command::GetStateEffecterStates { effecter: *id },
         }
     }
 
@@ -47,11 +47,11 @@ impl Thing {
         ensures { OnOk result (out.new.items ≡ out.old.items ++ what_text self.now) }
     {
         match self {
-            Thing::Sensor(id) => {
+            Thing::Sensor { id, .. } => {
                 push_text(out, "sensor ")?;
                 push_number(out, (*id).into())
             }
-            Thing::Effecter(id) => {
+            Thing::Effecter { id, .. } => {
                 push_text(out, "effecter ")?;
                 push_number(out, (*id).into())
             }

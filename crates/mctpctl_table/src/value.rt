@@ -1,14 +1,14 @@
 //! The value of a number of a numeric sensor or effecter.
 
-ghost use Rattle.std.specs.Prelude.{◌≡◌, ◌++◌, OnOk, option_map};
-ghost use Rattle.mctpctl_table.specs.Values.{converted, unit_text, value_of, value_text, word};
+ghost use Rattle.std.specs.Prelude.{◌≡◌, ◌++◌, OnOk};
+ghost use Rattle.mctpctl_table.specs.Values.{converted, value_of, value_text};
 
 use crate::decimal::{Decimal, product, sum};
 use crate::decimal_text::push_decimal;
 use crate::real32::real32_decimal;
 use crate::text::{push_signed, push_text};
+use crate::unit::{is_shown, push_unit};
 use mctp_packet::Memory;
-use mctpctl_decode::unit_name;
 use pldm_pdr::{Conversion, Units};
 
 /// A value, number * 10 ^ exponent.
@@ -18,7 +18,8 @@ pub(crate) struct Value {
     pub(crate) exponent: i16,
 }
 
-/// Adds the value of a number with its unit; the number as it is, and `raw`, where it has no exact value.
+/// Adds the value of a number with its unit; the number as it is, and `raw`, where it has no exact value, or the unit is
+/// more than is shown.
 #[tactic(auto, unfolding(crate::specs::Values::value_text))]
 pub(crate) fn push_value(
     out: &mut Vec<u8>,
@@ -29,11 +30,11 @@ pub(crate) fn push_value(
     ensures { OnOk result (out.new.items ≡ out.old.items ++ value_text conversion.now units.now number) }
 {
     match value_of(conversion, units, number) {
-        Some(value) => {
+        Some(value) if is_shown(units) => {
             push_decimal(out, value.number, value.exponent)?;
-            push_unit(out, units.base_unit)
+            push_unit(out, units)
         }
-        None => {
+        _ => {
             push_signed(out, number)?;
             push_text(out, " raw")
         }
@@ -63,28 +64,4 @@ fn converted(conversion: &Conversion, number: i64) -> Option<Decimal>
     let offset = real32_decimal(conversion.offset)?;
     let left = product(number, &resolution)?;
     sum(&left, &offset)
-}
-
-/// Adds a space and the name of a unit, if it has one.
-#[tactic(auto, unfolding(crate::specs::Values::unit_text))]
-fn push_unit(out: &mut Vec<u8>, unit: u8) -> Result<(), Memory>
-    ensures { OnOk result (out.new.items ≡ out.old.items ++ unit_text unit) }
-{
-    if unit == 0 || unit == 1 {
-        return Ok(());
-    }
-    push_word(out, unit_name(unit))
-}
-
-/// Adds a space and a word, if there is one.
-fn push_word(out: &mut Vec<u8>, name: Option<&str>) -> Result<(), Memory>
-    ensures { OnOk result (out.new.items ≡ out.old.items ++ word (option_map (λ text. text.now) name.entry)) }
-{
-    match name {
-        Some(name) => {
-            push_text(out, " ")?;
-            push_text(out, name)
-        }
-        None => Ok(()),
-    }
 }

@@ -171,3 +171,102 @@ effecter 1  Fan speed  -  refused c0
 ";
     expect(&rt, rt.alloc(), &table, text);
 }
+
+/// The names of sensor 1 of two termini, the other one's first.
+const NAMES_OF_TWO: [&str; 2] = [
+    "05000000010600001500020001000101656e00004f00740068006500720000",
+    "05000000010600001100010001000101656e0000460061006e0000",
+];
+
+/// Adds numeric sensor 1 of terminus 1 with these units, whose reading is 500.
+fn add_in_units(rt: &impl Abort, alloc: Global, table: &mut Table, units: &str) {
+    let start = "02000000010200004700010001004000010000000001";
+    let end = "01020000803f";
+    let mut record = bytes(rt, alloc, start);
+    let mut more = bytes(rt, alloc, units);
+    record.append(&mut more).expect(rt, "memory");
+    let mut more = bytes(rt, alloc, end);
+    record.append(&mut more).expect(rt, "memory");
+    let mut more = bytes(
+        rt,
+        alloc,
+        "0000000000000000000000000000000000000000000000000200000000000000000000000000000000000000",
+    );
+    record.append(&mut more).expect(rt, "memory");
+    let reading = bytes(rt, alloc, "0100021100020000010101f401");
+    table.add(&record, &[], Some(&reading)).expect(rt, "memory");
+}
+
+/// A base unit and a rate are shown; what a record says beyond that makes a number raw.
+#[test]
+fn units(rt: HostRuntime) {
+    let mut table = Table::new(rt.alloc());
+    for units in [
+        "130000000000000000", // RPM
+        "260004000000000000", // revolutions a minute
+        "3d0003000000000000", // bytes a second
+        "3d0303000000000000", // thousands of these
+        "010003000000000000", // a second, of an unspecified unit
+        "000000000000000000", // none
+        "1f0003001500000000", // meters a second, by seconds
+        "1f0000001500000100", // meters, times seconds
+        "5a0000000000000000", // a unit without a name
+        "3d000a000000000000", // a rate without one
+    ] {
+        add_in_units(&rt, rt.alloc(), &mut table, units);
+    }
+    let text = "\
+sensor 1  -  500 rpm                 normal
+sensor 1  -  500 revolutions/minute  normal
+sensor 1  -  500 bytes/second        normal
+sensor 1  -  500000 bytes/second     normal
+sensor 1  -  500 unspecified/second  normal
+sensor 1  -  500                     normal
+sensor 1  -  500 raw                 normal
+sensor 1  -  500 raw                 normal
+sensor 1  -  500 raw                 normal
+sensor 1  -  500 raw                 normal
+";
+    expect(&rt, rt.alloc(), &table, text);
+}
+
+/// A name is of the sensor's own terminus.
+#[test]
+fn names_of_two_termini(rt: HostRuntime) {
+    let mut records = Vec::new(rt.alloc());
+    for name in NAMES_OF_TWO {
+        records
+            .push(bytes(&rt, rt.alloc(), name))
+            .expect(&rt, "memory");
+    }
+    let record = bytes(&rt, rt.alloc(), FAN);
+    let mut table = Table::new(rt.alloc());
+    table.add(&record, &records, None).expect(&rt, "memory");
+    expect(&rt, rt.alloc(), &table, "sensor 1  Fan  -  no answer\n");
+}
+
+/// Two names of 72 characters have more bytes than the records that this project writes.
+#[test]
+fn long_names(rt: HostRuntime) {
+    let mut names = bytes(&rt, rt.alloc(), "05000000010600003001010001000102");
+    for _ in 0..2 {
+        for byte in *b"en\0" {
+            names.push(byte).expect(&rt, "memory");
+        }
+        for _ in 0..72 {
+            names.push(0).expect(&rt, "memory");
+            names.push(b'A').expect(&rt, "memory");
+        }
+        names.push(0).expect(&rt, "memory");
+        names.push(0).expect(&rt, "memory");
+    }
+    let mut records = Vec::new(rt.alloc());
+    records.push(names).expect(&rt, "memory");
+    let record = bytes(&rt, rt.alloc(), FAN);
+    let mut table = Table::new(rt.alloc());
+    table.add(&record, &records, None).expect(&rt, "memory");
+    let text = "\
+sensor 1  AAAAAAAAAAAAAAAAAAAAAAAAAAAAAAAAAAAAAAAAAAAAAAAAAAAAAAAAAAAAAAAAAAAAAAAA  -  no answer
+";
+    expect(&rt, rt.alloc(), &table, text);
+}
