@@ -194,6 +194,20 @@ def stated(rows, place):
     rows.check("asked: a state that cannot be kept", ran == want, repr(ran))
 
 
+def killed(rows, place):
+    """A run that is killed once its request is out leaves an empty file, and so the next one waits its whole time."""
+    path = place.write("last", "0\n")
+    with Terminal() as terminal:
+        words = [place.program, "ask", "--line", terminal.name, *ENDS, *TIMES, "--state", path, "gettid"]
+        asking = subprocess.Popen(words, **SILENT)
+        sent = terminal.read()
+        asking.kill()
+        asking.communicate(timeout=SECONDS)
+    with open(path) as file:
+        kept = file.read()
+    rows.check("asked: a state of a run that was killed", (sent, kept) == (frame(GET_TID), ""), repr((sent, kept)))
+
+
 def lost(rows, place):
     """A request that got no answer is sent again: the second copy is answered, amid garbage and cut frames."""
     with Terminal() as terminal:
@@ -275,7 +289,8 @@ def on_standard_input(rows, place):
     rows.check("asked: standard input that ended", ran == (3, b"", b"mctpctl: the line ended\n"), repr(ran))
 
 
-PARTS = (answered, filed, unanswered, ended, refused, waited, stated, lost, others, late, garbage, on_standard_input)
+PARTS = (answered, filed, unanswered, ended, refused, waited, stated, killed, lost, others, late, garbage)
+PARTS += (on_standard_input,)
 
 
 def check(rows, program, device):

@@ -7,13 +7,20 @@ use Rattle.mctp_control.specs.Queries.{ControlQuery, answer_in, query_packet}
 use Rattle.mctp_serial.specs.Readings.{Reading, after, events_in, step, then_event}
 use Rattle.mctp_serial.specs.declared.reader.FrameEvent.{FrameEvent}
 use Rattle.mctp_serial.specs.declared.reader.FrameEvent.TheVariants.{Nothing, Packet, Dropped}
-use Rattle.mctpctl_ask.specs.Asked.{Shown}
-use Rattle.mctpctl_ask.specs.Queries.{AsksQuery, AwaitsSo, StopsQuery, TakesQueryTurn, WantedAnswer, all_seen, all_written, answer_after, first_answer, is_again, is_over, latest, query_frame, tried_again, tries_after, tries_from, wanted_of}
+use Rattle.mctpctl_ask.specs.Asked.{Shown, StopsFor}
+use Rattle.mctpctl_ask.specs.Queries.{AsksQuery, Awaits, StopsQuery, all_written, answer_after, first_answer, latest, query_frame, tries_after}
+use Rattle.mctpctl_ask.specs.QueryTries.{is_again, is_over, tried_again, tries_from}
+use Rattle.mctpctl_ask.specs.QueryTurns.{TakesQueryTurn, WantedAnswer, all_seen, wanted_of}
 use Rattle.mctpctl_ask.specs.Turns.{Asking, Turn, after_turn, after_turns, bytes_read, framed, is_end, readings, sent_frames}
 use Rattle.mctpctl_ask.specs.declared.fault.AskFault.{AskFault}
-use Rattle.mctpctl_ask.specs.declared.fault.AskFault.TheVariants.{LineEnded}
 use Rattle.mctpctl_ask.specs.declared.tries.Tries.{Tries}
 use Rattle.mctpctl_serve.specs.Serving.{packets_in, packets_of}
+
+-- the answer was awaited, by what is kept meanwhile: what was seen, and the tries
+pub record AwaitsSo (q : ControlQuery) (again most : ℕ) (w : WantedAnswer) (tries : Tries) (s s1 : Shown) : Type 0 where
+  pub awaits : Awaits q again most s s1
+  pub seen : w ≡ wanted_of (Some q) (answer_after q s.asking awaits.turns)
+  pub tried : tries ≡ tries_after q again most s.asking awaits.turns
 
 after_append : (r : Reading) (bytes more : List ℕ) → after r (bytes ++ more) ≡ after (after r bytes) more
 after_append r [] more = refl
@@ -71,7 +78,7 @@ answer_more q a turn turns =
     ∙ first_append q (packets_in a.reading (bytes_read turns)) (packets_in (after a.reading (bytes_read turns)) turn.bytes)
     ∙ ap (λ (r : Reading). option_or (answer_after q a turns) (first_answer q (packets_in r turn.bytes))) (sym (reading_after a turns))
 
-seen_more : (q : ControlQuery) (a now : Asking) (w w1 : WantedAnswer) (turn : Turn) (turns : List Turn) → now ≡ after_turns a turns
+pub seen_more : (q : ControlQuery) (a now : Asking) (w w1 : WantedAnswer) (turn : Turn) (turns : List Turn) → now ≡ after_turns a turns
     → w ≡ wanted_of (Some q) (answer_after q a turns) → w1 ≡ all_seen w (packets_in now.reading turn.bytes)
     → w1 ≡ wanted_of (Some q) (answer_after q a (turn ∷ turns))
 seen_more q a now w w1 turn turns at before seen =
@@ -81,7 +88,7 @@ seen_more q a now w w1 turn turns at before seen =
     ∙ ap (λ (now : Asking). wanted_of (Some q) (option_or (answer_after q a turns) (first_answer q (packets_in now.reading turn.bytes)))) at
     ∙ ap (λ (o : Option (List ℕ)). wanted_of (Some q) o) (sym (answer_more q a turn turns))
 
-pub more : (q : ControlQuery) (again most : ℕ) (w w1 : WantedAnswer) (tries tries1 : Tries) (s s1 s2 : Shown) → AwaitsSo q again most w tries s s1
+abbrev pub more : (q : ControlQuery) (again most : ℕ) (w w1 : WantedAnswer) (tries tries1 : Tries) (s s1 s2 : Shown) → AwaitsSo q again most w tries s s1
     → is_end s1.asking.quiet ≡ false → w.answer ≡ None → is_over tries s1.asking.held.last ≡ false
     → TakesQueryTurn q w w1 tries tries1 s1 s2 → AwaitsSo q again most w1 tries1 s s2
 more q again most w w1 tries tries1 s s1 s2 f going none lasts g =
@@ -127,7 +134,7 @@ more q again most w w1 tries tries1 s s1 s2 f going none lasts g =
     }
 
 -- the frame went out, and no turn was taken yet
-pub begun : (q : ControlQuery) (again most : ℕ) (s s1 : Shown) → s1.asking ≡ s.asking → s1.left ≡ s.left → s1.clock ≡ s.clock
+abbrev pub begun : (q : ControlQuery) (again most : ℕ) (s s1 : Shown) → s1.asking ≡ s.asking → s1.left ≡ s.left → s1.clock ≡ s.clock
     → Appends s.written s1.written (framed (query_packet q))
     → AwaitsSo q again most (wanted_of (Some q) None) (tries_from again most s.asking.held.last) s s1
 begun q again most s s1 asking left clock wrote = record {
@@ -156,9 +163,9 @@ ended q again most w tries s s1 answer f is over =
           (subst (λ (t : Tries). is_over t s1.asking.held.last ≡ true) f.tried (over (sym is ∙ none)));
     }
 
-pub stops : (q : ControlQuery) (again most : ℕ) (w : WantedAnswer) (tries : Tries) (fault : AskFault) (s last s1 : Shown) → AwaitsSo q again most w tries s last
-    → Keeps last.written s1.written → (fault ≡ LineEnded → is_end last.asking.quiet ≡ true) → StopsQuery q again most fault s s1
-stops q again most w tries fault s last s1 f kept ended = record { last = last; awaits = f.awaits; kept = kept; ended = ended }
+pub stops : (q : ControlQuery) (again most : ℕ) (w : WantedAnswer) (tries : Tries) (fault : AskFault) (s last s1 : Shown) → (f : AwaitsSo q again most w tries s last)
+    → Keeps last.written s1.written → StopsFor fault f.awaits.turns last s1 → StopsQuery q again most fault s s1
+stops q again most w tries fault s last s1 f kept reason = record { last = last; awaits = f.awaits; kept = kept; reason = reason }
 
 -- whether there is an answer, as a test
 pub none_open : {A : Type 0} (answer : Option (List ℕ)) (going : Bool) → going ≡ is_none answer → going ≡ false → answer ≡ None → A

@@ -1,15 +1,15 @@
 -- Turns that were taken, and one more.
-use Rattle.std.proofs.Common.{◌≡◌, ℕ, List, [], ◌∷◌, refl, sym, ap, subst, true, false, ◌∙◌}
+use Rattle.std.proofs.Common.{◌≡◌, ℕ, ◌+◌, List, [], ◌∷◌, length, refl, sym, ap, subst, false, ◌∙◌, arith}
 use Rattle.std.specs.Io.KnownBytes.{Appends, Keeps}
 use Rattle.std.proofs.KnownBytes.{Appends-trans, Appends-nil, Consumes-trans, Consumes-nil}
-use Rattle.mctpctl_ask.specs.Asked.{Shown, Turned, TakesTurn, Goes, Listens, Stops}
+use Rattle.mctpctl_ask.specs.Asked.{FailsTurn, Goes, Listens, Shown, Stops, StopsFor, StopsListening, TakesTurn, Turned}
 use Rattle.mctpctl_ask.specs.Ends.{IsRefused}
 use Rattle.mctpctl_ask.specs.Turns.{Asking, Turn, after_turn, after_turns, all_sent, bytes_read, is_end, readings, sent_frames}
 use Rattle.mctpctl_ask.specs.declared.fault.AskFault.{AskFault}
-use Rattle.mctpctl_ask.specs.declared.fault.AskFault.TheVariants.{LineEnded, Memory}
+use Rattle.mctpctl_ask.specs.declared.fault.AskFault.TheVariants.{LineEnded, Read, Write, Clock, Memory, TooMany}
 use Rattle.pldm_requester.specs.Steps.{accepts}
 
-turned_more : (s : Shown) (turns : List Turn) (s1 : Shown) (turn : Turn) (s2 : Shown) → Turned s turns s1 → Turned s1 (turn ∷ []) s2 → Turned s (turn ∷ turns) s2
+pub turned_more : (s : Shown) (turns : List Turn) (s1 : Shown) (turn : Turn) (s2 : Shown) → Turned s turns s1 → Turned s1 (turn ∷ []) s2 → Turned s (turn ∷ turns) s2
 turned_more s turns s1 turn s2 f g = record {
   asking = g.asking ∙ ap (λ (a : Asking). after_turn a turn) f.asking;
   read = Consumes-trans s.left s1.left s2.left (bytes_read turns) turn.bytes f.read g.read;
@@ -19,7 +19,7 @@ turned_more s turns s1 turn s2 f g = record {
       (subst (λ (a : Asking). Appends s1.written s2.written (sent_frames a turn)) f.asking g.wrote);
 }
 
-pub goes_nowhere : (waits : Asking → Type 0) (s : Shown) → Goes waits s s
+abbrev pub goes_nowhere : (waits : Asking → Type 0) (s : Shown) → Goes waits s s
 goes_nowhere waits s = record {
   turns = [];
   turned = record {
@@ -31,28 +31,41 @@ goes_nowhere waits s = record {
   before = tt;
 }
 
-pub goes_on : (waits : Asking → Type 0) (s s1 s2 : Shown) → Goes waits s s1 → waits s1.asking → TakesTurn s1 s2 → Goes waits s s2
+abbrev pub goes_on : (waits : Asking → Type 0) (s s1 s2 : Shown) → Goes waits s s1 → waits s1.asking → TakesTurn s1 s2 → Goes waits s s2
 goes_on waits s s1 s2 f now g = record {
   turns = g.turn ∷ f.turns;
   turned = turned_more s f.turns s1 g.turn s2 f.turned g.turned;
   before = (subst waits f.turned.asking now, f.before);
 }
 
-pub stops : (waits : Asking → Type 0) (fault : AskFault) (s last s1 : Shown) → Goes waits s last → Keeps last.written s1.written
-    → (fault ≡ LineEnded → is_end last.asking.quiet ≡ true) → Stops waits fault s s1
-stops waits fault s last s1 goes kept ended = record { last = last; goes = goes; kept = kept; ended = ended }
+pub stops : (waits : Asking → Type 0) (fault : AskFault) (s last s1 : Shown) → (f : Goes waits s last) → Keeps last.written s1.written
+    → StopsFor fault f.turns last s1 → Stops waits fault s s1
+stops waits fault s last s1 goes kept reason = record { last = last; goes = goes; kept = kept; reason = reason }
 
--- it is no end of the line where there was no memory
-pub memory_is_no_end : {A : Type 0} (fault : AskFault) → fault ≡ Memory → fault ≡ LineEnded → A
-memory_is_no_end fault memory ended = let same : Memory ≡ LineEnded = sym memory ∙ ended in cc
+-- a turn failed after these
+pub failed_turn : (fault : AskFault) (turns : List Turn) (last s1 : Shown) → FailsTurn fault last s1 → StopsFor fault turns last s1
+failed_turn LineEnded turns last s1 f = absurd f
+failed_turn Read turns last s1 f = f
+failed_turn Write turns last s1 f = f
+failed_turn Clock turns last s1 f = f
+failed_turn Memory turns last s1 f = f
+failed_turn TooMany turns last s1 f = absurd f
+
+-- one turn more is counted
+pub one_more : (turn : Turn) (turns : List Turn) (count : ℕ) → length turns ≡ count → length (turn ∷ turns) ≡ count + 1
+one_more turn turns count same = omega (arith, same)
 
 -- no request might be opened, and all stayed as it was
-pub refused : (s s1 s2 : Shown) → Goes IsRefused s s1 → is_end s1.asking.quiet ≡ false → accepts s1.asking.held s1.asking.held.last ≡ false
+abbrev pub refused : (s s1 s2 : Shown) → Goes IsRefused s s1 → is_end s1.asking.quiet ≡ false → accepts s1.asking.held s1.asking.held.last ≡ false
     → s2.asking ≡ s1.asking → s2.left ≡ s1.left → s2.clock ≡ s1.clock → s2.written ≡ s1.written
     → Goes IsRefused s s2 × IsRefused s2.asking
 refused s s1 s2 goes going none asking left clock written =
     let same : s2 ≡ s1 = λ i. record { asking = asking i; left = left i; clock = clock i; written = written i } in (
-      subst (λ (t : Shown). Goes IsRefused s t) (sym same) goes,
+      record {
+        turns = goes.turns;
+        turned = subst (λ (t : Shown). Turned s goes.turns t) (sym same) goes.turned;
+        before = goes.before;
+      },
       subst IsRefused (sym asking) (going, none),
     )
 
@@ -69,3 +82,16 @@ begun_so span span1 s s0 s1 time held reading quiet left clock written listens =
       written = written i;
     } in
     subst (λ n. Listens n s0 s1) time (subst (λ (t : Shown). Listens span t s1) same listens)
+
+pub stopped_so : (span : ℕ) (fault : AskFault) (s s0 s1 : Shown) → s.asking.held ≡ s0.asking.held → s.asking.reading ≡ s0.asking.reading
+    → s.asking.quiet ≡ s0.asking.quiet → s.left ≡ s0.left → s.clock ≡ s0.clock → s.written ≡ s0.written
+    → StopsListening span fault s s1 → StopsListening span fault s0 s1
+stopped_so span fault s s0 s1 held reading quiet left clock written stops =
+    let same : s ≡ s0 =
+    λ i. record {
+      asking = record { held = held i; reading = reading i; quiet = quiet i };
+      left = left i;
+      clock = clock i;
+      written = written i;
+    } in
+    subst (λ (t : Shown). StopsListening span fault t s1) same stops

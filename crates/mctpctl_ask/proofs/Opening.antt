@@ -1,13 +1,16 @@
 -- What a requester answers to an opening, and what has gone out then.
-use Rattle.std.proofs.Common.{◌≡◌, ℕ, Bool, true, false, ◌&&◌, not, List, Option, Result, Ok, Err, refl, sym, ap, subst, ◌∙◌}
+use Rattle.std.proofs.Common.{◌≡◌, ℕ, Bool, true, false, ◌&&◌, not, List, Option, Result, Ok, Err, ◌⊎◌, inl, inr, refl, sym, ap, subst, ◌∙◌}
 use Rattle.std.specs.Io.KnownBytes.{Appends}
 use Rattle.mctpctl_ask.proofs.Sending.{opened_frames}
 use Rattle.mctpctl_ask.specs.Asked as asked
 use Rattle.mctpctl_ask.specs.Turns.{Asking, memo_frames}
 use Rattle.pldm_requester.specs.Calls.{open_answer}
-use Rattle.pldm_requester.specs.Steps.{RequesterState, opened_held, opening_answer, is_tag_in_use, is_id_in_use}
+use Rattle.pldm_requester.specs.Steps.{RequesterState, accepts, opened_held, opening_answer, is_tag_in_use, is_id_in_use}
 use Rattle.pldm_requester.specs.declared.results.Opened.{Opened}
 use Rattle.pldm_requester.specs.declared.results.OpenFault.{OpenFault}
+use Rattle.pldm_requester.specs.declared.results.OpenFault.TheVariants.{Memory}
+use Rattle.mctp_packet.specs.Memories.{out_of_memory}
+use Rattle.mctp_packet.specs.declared.memory.Memory.{Memory as MemoryFault}
 use Rattle.pldm_wire.specs.declared.command.Command.{Command}
 
 abbrev number_or : ℕ → Result Opened OpenFault → ℕ
@@ -53,3 +56,17 @@ opened_now a held1 command opened written written1 now at answer held wrote =
     opened_at a held1 command opened written written1
     (subst (λ n. opening_answer a.held n ≡ Ok opened) at answer)
     (subst (λ n. held1 ≡ opened_held a.held n command) at held) wrote
+
+-- neither the tag nor the instance ID is refused for want of memory
+pub refused_for_memory : {A : Type 0} (tag id : Bool) (number : ℕ) (refused : MemoryFault) → open_answer tag id number ≡ Err (Memory refused) → A
+refused_for_memory true id number refused e = cc
+refused_for_memory false true number refused e = cc
+refused_for_memory false false number refused e = cc
+
+-- want of memory is answered only where a request may be opened
+pub wants_room : (held : RequesterState) (now : ℕ) (fault : OpenFault) (refused : MemoryFault) → fault ≡ Memory refused
+    → ((fault ≡ Memory out_of_memory) × (accepts held now ≡ true)) ⊎ (opening_answer held now ≡ Err fault)
+    → accepts held now ≡ true
+wants_room held now fault refused is (inl memory) = memory.1
+wants_room held now fault refused is (inr answer) =
+    refused_for_memory (is_tag_in_use held) (is_id_in_use held now) held.count refused (answer ∙ ap Err is)

@@ -3,9 +3,9 @@ use Rattle.std.proofs.Common.{◌≡◌, ℕ, zero, suc, ◌≤◌, ◌==◌, Bo
 use Rattle.std.specs.Io.KnownBytes.{Appends, Consumes}
 use Rattle.std.proofs.lemmas.Bool.Decides.{nat_tests}
 use Rattle.mctp_serial.specs.Readings.{after}
-use Rattle.mctpctl_ask.specs.Asked.{Shown, TakesTurn}
-use Rattle.mctpctl_ask.specs.Queries.{TakesTurnSeeing, WantedAnswer, all_seen}
-use Rattle.mctpctl_ask.specs.Turns.{frames_of, is_none, quiet_after, received}
+use Rattle.mctpctl_ask.specs.Asked.{LacksMemory, Shown, TakesTurn}
+use Rattle.mctpctl_ask.specs.QueryTurns.{TakesTurnSeeing, WantedAnswer, all_seen}
+use Rattle.mctpctl_ask.specs.Turns.{WantsMemory, frames_of, is_none, quiet_after, received}
 use Rattle.mctpctl_ask.specs.declared.fault.AskFault.{AskFault}
 use Rattle.mctpctl_serve.specs.Serving.{moment_after, packets_in}
 use Rattle.pldm_requester.specs.Steps.{RequesterState, again_at, ticked_held}
@@ -48,3 +48,14 @@ turn_taken s s1 bytes clock now heard none w w1 at hears ticks reads empty quiet
 pub turn_of : (w w1 : WantedAnswer) (s s1 : Shown) (r : Result (Unit {0}) AskFault) → OnOk r (TakesTurnSeeing w w1 s s1) → OnOk r (TakesTurn s s1)
 turn_of w w1 s s1 (Ok done) h = record { turn = h.turn; turned = h.turned }
 turn_of w w1 s s1 (Err fault) h = tt
+
+-- a packet of the bytes that were read wanted memory
+pub lacks_memory : (s s1 : Shown) (bytes : List ℕ) (clock now : ℕ) → now ≡ moment_after s.asking.held.last clock
+    → Consumes s.left s1.left bytes → Consumes s.clock s1.clock (clock ∷ [])
+    → WantsMemory s.asking.held now (packets_in s.asking.reading bytes) → LacksMemory s s1
+lacks_memory s s1 bytes clock now at left ticked wants = record {
+  turn = record { bytes = bytes; clock = clock };
+  read = left;
+  ticked = ticked;
+  wants = subst (λ n. WantsMemory s.asking.held n (packets_in s.asking.reading bytes)) at wants;
+}

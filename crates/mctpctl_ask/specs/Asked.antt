@@ -1,10 +1,11 @@
 -- What a line that asks read, which readings its clock gave, and what was written.
 use Rattle.std.specs.Io.KnownBytes.{Appends, Consumes, Keeps}
 use Rattle.std.specs.List.{flat_map}
-use Rattle.std.specs.Prelude.{◌≡◌, ◌≢◌, ◌⊎◌, ℕ, ◌+◌, ◌≤◌, true, false, List, [], ◌∷◌, Option, None, Some}
+use Rattle.std.specs.Prelude.{◌≡◌, ◌≢◌, ◌⊎◌, ℕ, ◌+◌, ◌<◌, ◌≤◌, true, false, List, [], ◌∷◌, length, Option, None, Some}
 use Rattle.std.specs.Prelude.{Result, MatchResult}
 use Rattle.mctpctl_ask.specs.Ends.{Before, IsEarly, IsRefused, IsWaiting, ended_of}
-use Rattle.mctpctl_ask.specs.Turns.{Asking, Turn, after_turns, all_sent, at_first, bytes_read, framed, is_end, readings}
+use Rattle.mctpctl_ask.specs.Turns.{Asking, Turn, WantsMemory, after_turns, all_sent, at_first, bytes_read, framed}
+use Rattle.mctpctl_ask.specs.Turns.{is_end, moment_of, readings}
 use Rattle.mctpctl_ask.specs.declared.fault.AskFault.{AskFault}
 use Rattle.mctpctl_ask.specs.declared.fault.AskFault.TheVariants as faults
 use Rattle.mctpctl_ask.specs.declared.fault.BeginFault.{BeginFault}
@@ -13,10 +14,13 @@ use Rattle.mctpctl_ask.specs.declared.line.AskingLine.{AskingLine}
 use Rattle.mctpctl_ask.specs.declared.line.Ended.{Ended}
 use Rattle.mctpctl_input.specs.Ports.{inner_of}
 use Rattle.mctpctl_input.specs.declared.port.Port.{Port}
+use Rattle.mctpctl_serve.specs.Clocks.{HasNoMore}
+use Rattle.mctpctl_serve.specs.Serving.{packets_in}
 use Rattle.pldm_requester.specs.Numbering.{packets_of}
 use Rattle.pldm_requester.specs.Slots.{held_of}
 use Rattle.pldm_requester.specs.Steps.{accepts, opened_held}
 use Rattle.pldm_requester.specs.Timings.{timing_fault}
+use Rattle.pldm_requester.specs.declared.requester.TheConstants.{MAX_REMEMBERED}
 use Rattle.pldm_requester.specs.declared.timing.Timing.{Timing}
 use Rattle.pldm_wire.specs.declared.command.Command.{Command}
 
@@ -98,12 +102,49 @@ pub record Asks (command : Command) (number : ℕ) (ended : Ended) (s s1 : Shown
   pub waited : Goes (IsWaiting number) asked s1
   pub ends : ended_of s1.asking.held number ≡ Some ended
 
--- turns were taken, and then no more was written; at the end of the line that had come
+-- a turn read these bytes and this reading of the clock, and then a packet wanted memory
+pub record LacksMemory (s s1 : Shown) : Type 0 where
+  pub turn : Turn
+  pub read : Consumes s.left s1.left turn.bytes
+  pub ticked : Consumes s.clock s1.clock (turn.clock ∷ [])
+  pub wants : WantsMemory s.asking.held (moment_of s.asking turn) (packets_in s.asking.reading turn.bytes)
+
+-- how a turn may fail: that a port has failed stands in a clause of its own
+abbrev pub FailsTurn : AskFault → (s s1 : Shown) → Type 0
+FailsTurn faults.LineEnded s s1 = ⊥
+FailsTurn faults.Read s s1 = Unit {0}
+FailsTurn faults.Write s s1 = Unit {0}
+FailsTurn faults.Clock s s1 = HasNoMore s.clock
+FailsTurn faults.Memory s s1 = LacksMemory s s1
+FailsTurn faults.TooMany s s1 = ⊥
+
+-- why a line stopped after these turns: its end had come, there were too many, or one turn more failed
+abbrev pub StopsFor : AskFault → List Turn → (last s1 : Shown) → Type 0
+StopsFor faults.LineEnded turns last s1 = is_end last.asking.quiet ≡ true
+StopsFor faults.TooMany turns last s1 = length turns ≡ 18446744073709551615
+StopsFor faults.Read turns last s1 = FailsTurn faults.Read last s1
+StopsFor faults.Write turns last s1 = FailsTurn faults.Write last s1
+StopsFor faults.Clock turns last s1 = FailsTurn faults.Clock last s1
+StopsFor faults.Memory turns last s1 = FailsTurn faults.Memory last s1
+
+-- turns were taken, and then no more was written
 pub record Stops (waits : Asking → Type 0) (fault : AskFault) (s s1 : Shown) : Type 0 where
   pub last : Shown
   pub goes : Goes waits s last
   pub kept : Keeps last.written s1.written
-  pub ended : fault ≡ faults.LineEnded → is_end last.asking.quiet ≡ true
+  pub reason : StopsFor fault goes.turns last s1
+
+-- a request might be opened, and there was no memory for it and its answer, which is kept from then on
+pub record LacksRoom (fault : AskFault) (s s1 : Shown) : Type 0 where
+  pub last : Shown
+  pub goes : Goes IsRefused s last
+  pub kept : Keeps last.written s1.written
+  pub no_memory : fault ≡ faults.Memory
+  pub accepted : accepts last.asking.held last.asking.held.last ≡ true
+  pub grows : last.asking.held.count < MAX_REMEMBERED
+
+abbrev pub StopsOpening : AskFault → Shown → Shown → Type 0
+StopsOpening fault s s1 = Stops IsRefused fault s s1 ⊎ LacksRoom fault s s1
 
 -- it stopped before a request was opened, or while it was open
 pub record StopsOpen (command : Command) (fault : AskFault) (s s1 : Shown) : Type 0 where
@@ -113,12 +154,12 @@ pub record StopsOpen (command : Command) (fault : AskFault) (s s1 : Shown) : Typ
   pub stops : Stops (IsWaiting number) fault asked s1
 
 abbrev pub AskStops : Command → AskFault → Shown → Shown → Type 0
-AskStops command fault s s1 = Stops IsRefused fault s s1 ⊎ StopsOpen command fault s s1
+AskStops command fault s s1 = StopsOpening fault s s1 ⊎ StopsOpen command fault s s1
 
 -- it stopped at the first turn, or later
 pub record StopsAtFirst (fault : AskFault) (s s1 : Shown) : Type 0 where
   pub kept : Keeps s.written s1.written
-  pub goes_on : fault ≢ faults.LineEnded
+  pub reason : FailsTurn fault s s1
 
 pub record StopsLater (span : ℕ) (fault : AskFault) (s s1 : Shown) : Type 0 where
   pub first : Turn
@@ -139,6 +180,14 @@ begun_as to_come remaining contents own device timing ticks reader writer = reco
   clock = to_come ticks;
   written = contents (inner_of writer);
 }
+
+-- a line that listened stopped before it was begun, where these bytes are left to come and these were written
+abbrev pub StopsBeginning : ℕ → Shown → (left written : Option (List ℕ)) → BeginFault → Type 0
+StopsBeginning span s left written (begin.Timing fault) = Unit {0}
+StopsBeginning span s left written (begin.Line fault) =
+    fault ≢ faults.Write
+    → (asking : Asking) × (clock : Option (List ℕ))
+    × StopsListening span fault s (record { asking = asking; left = left; clock = clock; written = written })
 
 -- why a line was not begun: its timing has this fault, or it has none
 abbrev pub RefusesTiming : ℕ → ℕ → Timing → BeginFault → Type 0

@@ -1,6 +1,6 @@
 -- What a line that asks does turn by turn, by looking back over the turns, the newest first.
 use Rattle.std.specs.List.{flat_map}
-use Rattle.std.specs.Prelude.{◌≡◌, ℕ, ◌+◌, Bool, true, false, nat_le, nat_lt, ◌&&◌, length}
+use Rattle.std.specs.Prelude.{◌≡◌, ◌⊎◌, ℕ, ◌+◌, Bool, true, false, nat_le, nat_lt, ◌&&◌, length}
 use Rattle.std.specs.Prelude.{List, [], ◌∷◌, ◌++◌, Option, None, Some, if◌then◌else◌}
 use Rattle.mctp_packet.specs.declared.TheConstants.{MAX_PACKET_BYTES}
 use Rattle.mctp_serial.specs.Frames.{frame}
@@ -8,7 +8,8 @@ use Rattle.mctp_serial.specs.Readings.{Reading, after, idle, step}
 use Rattle.mctpctl_ask.specs.declared.quiet.Quiet.{Quiet}
 use Rattle.mctpctl_ask.specs.declared.quiet.TheConstants.{END_MS, END_READS}
 use Rattle.mctpctl_serve.specs.Serving.{moment_after, packets_in}
-use Rattle.pldm_requester.specs.Steps.{RequesterState, Memo, again_at, held_at_first, received_held, ticked_held}
+use Rattle.pldm_requester.specs.Steps.{RequesterState, Memo, again_at, got_at, held_at_first, received_held, ticked_held}
+use Rattle.pldm_requester.specs.declared.results.Got.TheVariants.{Partial}
 use Rattle.pldm_requester.specs.declared.timing.Timing.{Timing}
 
 -- the bytes that a read gave, and the reading of the clock after it
@@ -60,12 +61,20 @@ abbrev pub received : RequesterState → ℕ → List (List ℕ) → RequesterSt
 received held moment [] = held
 received held moment (packet ∷ packets) = received (received_held held moment packet) moment packets
 
+-- one of these packets is a part of a message whose others are to come: it has to be kept
+abbrev pub WantsMemory : RequesterState → ℕ → List (List ℕ) → Type 0
+WantsMemory held moment [] = ⊥
+WantsMemory held moment (packet ∷ packets) =
+    (got_at held packet ≡ Partial) ⊎ WantsMemory (received_held held moment packet) moment packets
+
 -- a byte was read at a moment, and where it ended the frame of a packet, that came: what is held of more bytes is that
 -- of the rest of them
 pub record HearsByte (h : RequesterState) (r : Reading) (moment byte : ℕ) (h1 : RequesterState) (r1 : Reading)
     : Type 0 where
   pub held :
       (bytes : List ℕ) → received h moment (packets_in r (byte ∷ bytes)) ≡ received h1 moment (packets_in r1 bytes)
+  pub wants :
+      (bytes : List ℕ) → WantsMemory h1 moment (packets_in r1 bytes) → WantsMemory h moment (packets_in r (byte ∷ bytes))
   pub reading : (step r byte).next ≡ r1
 
 abbrev pub at_first : ℕ → ℕ → Timing → Asking

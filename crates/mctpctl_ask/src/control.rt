@@ -2,9 +2,10 @@
 
 ghost use Rattle.std.specs.Prelude.{◌≡◌, ◌≢◌, IfOk, IfErr, OnOk, false, option_map};
 ghost use Rattle.std.specs.Io.KnownBytes.{Appends, Keeps};
-ghost use Rattle.mctpctl_ask.specs.Asked.{shown};
-ghost use Rattle.mctpctl_ask.specs.Queries.{AsksQuery, StopsQuery, TakesQueryTurn, query_frame};
-ghost use Rattle.mctpctl_input.specs.Ports.{inner_of, has_failed, BothWork, ReportsFailed, ReportsFailedPorts};
+ghost use Rattle.mctpctl_ask.specs.Asked.{FailsTurn, shown};
+ghost use Rattle.mctpctl_ask.specs.Queries.{AsksQuery, StopsQuery, query_frame};
+ghost use Rattle.mctpctl_ask.specs.QueryTurns.{TakesQueryTurn};
+ghost use Rattle.mctpctl_input.specs.Ports.{inner_of, has_failed, BothWork, ReportsFailed, ReportsFailedPorts, StaysFlushed};
 
 use crate::fault::AskFault;
 use crate::line::AskingLine;
@@ -46,6 +47,7 @@ pub fn ask_control<C: Ticks, R: Read, W: Write>(
     ensures stopped { IfErr result (λ fault. fault ≢ AskFault.Write → StopsQuery query.now again tries fault
         (shown C.to_come R.remaining W.contents line.old reader.old writer.old)
         (shown C.to_come R.remaining W.contents line.new reader.new writer.new)) }
+    ensures flushed { result ≢ Err AskFault.Write → StaysFlushed writer.old writer.new }
     ensures ports { ReportsFailedPorts AskFault.Read AskFault.Write result reader.new writer.new }
 {
     let mut wanted = Wanted::answer_to(query);
@@ -84,7 +86,10 @@ fn take_query_turn<C: Ticks, R: Read, W: Write>(
         (shown C.to_come R.remaining W.contents line.new reader.new writer.new)) }
     ensures kept { IfErr result (λ fault. fault ≢ AskFault.Write
         → Keeps (W.contents (inner_of writer.old)) (W.contents (inner_of writer.new))) }
-    ensures end { result ≢ Err AskFault.LineEnded }
+    ensures reason { IfErr result (λ fault. FailsTurn fault
+        (shown C.to_come R.remaining W.contents line.old reader.old writer.old)
+        (shown C.to_come R.remaining W.contents line.new reader.new writer.new)) }
+    ensures flushed { result ≢ Err AskFault.Write → StaysFlushed writer.old writer.new }
     ensures ports { ReportsFailedPorts AskFault.Read AskFault.Write result reader.new writer.new }
 {
     match take_turn_seeing(line, wanted, reader, writer) {
@@ -106,6 +111,7 @@ fn send_query<W: Write>(query: &Query, goes: bool, writer: &mut Port<W>) -> Resu
     requires { has_failed writer.old ≡ false }
     ensures bytes { OnOk result (Appends (W.contents (inner_of writer.old)) (W.contents (inner_of writer.new))
         (query_frame query.now goes)) }
+    ensures flushed { OnOk result (StaysFlushed writer.old writer.new) }
     ensures fault { IfErr result (λ fault. fault ≡ AskFault.Write) }
     ensures write { ReportsFailed AskFault.Write result writer.new }
 {

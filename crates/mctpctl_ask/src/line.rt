@@ -1,11 +1,13 @@
 //! A line that asks: it listens until requests may be opened, opens one, and follows it until it has ended.
 
-ghost use Rattle.std.specs.Prelude.{◌≡◌, ◌≢◌, ◌*◌, ◌<◌, ◌^◌, Some, Err, option_map, IfOk, IfErr, OnOk, false};
+ghost use Rattle.std.specs.Prelude.{◌≡◌, ◌≢◌, ◌*◌, ◌<◌, ◌^◌, Some, Err, option_map, IfOk, IfErr, OnOk, true, false};
 ghost use Rattle.std.specs.Io.KnownBytes.{Keeps};
-ghost use Rattle.mctpctl_ask.specs.Asked.{AskStops, Asks, ChecksTiming, Goes, Listens, Opens, OpensNow, asking_of, Stops, StopsListening, begun_as, shown};
-ghost use Rattle.mctpctl_ask.specs.Ends.{IsWaiting, IsRefused, answer_of, ended_of};
-ghost use Rattle.mctpctl_input.specs.Ports.{inner_of, has_failed, BothWork, ReportsFailed, ReportsFailedPorts};
+ghost use Rattle.mctpctl_ask.specs.Asked.{AskStops, Asks, ChecksTiming, Goes, Listens, Opens, OpensNow, Stops, StopsBeginning, StopsListening, StopsOpening, asking_of, begun_as, shown};
+ghost use Rattle.mctpctl_ask.specs.Ends.{IsWaiting, answer_of, ended_of};
+ghost use Rattle.mctpctl_input.specs.Ports.{inner_of, has_failed, BothWork, ReportsFailed, ReportsFailedPorts, StaysFlushed};
 ghost use Rattle.pldm_requester.specs.Slots.{held_of};
+ghost use Rattle.pldm_requester.specs.Steps.{accepts};
+ghost use Rattle.pldm_requester.specs.declared.requester.TheConstants.{MAX_REMEMBERED};
 
 use crate::fault::{AskFault, BeginFault};
 use crate::quiet::Quiet;
@@ -96,9 +98,13 @@ pub fn begin<C: Ticks + Drop, R: Read, W: Write>(
     ensures begun { IfOk result (λ line. Listens (2 * timing.keep)
         (begun_as C.to_come R.remaining W.contents own device timing ticks reader.old writer.old)
         (shown C.to_come R.remaining W.contents line reader.new writer.new)) }
+    ensures stopped { IfErr result (StopsBeginning (2 * timing.keep)
+        (begun_as C.to_come R.remaining W.contents own device timing ticks reader.old writer.old)
+        (R.remaining (inner_of reader.new)) (W.contents (inner_of writer.new))) }
     ensures silent { result ≢ Err (BeginFault.Line AskFault.Write)
         → Keeps (W.contents (inner_of writer.old)) (W.contents (inner_of writer.new)) }
     ensures timing { ChecksTiming own device timing result }
+    ensures flushed { result ≢ Err (BeginFault.Line AskFault.Write) → StaysFlushed writer.old writer.new }
     ensures ports { ReportsFailedPorts (BeginFault.Line AskFault.Read) (BeginFault.Line AskFault.Write) result
         reader.new writer.new }
 {
@@ -128,9 +134,13 @@ pub fn begin_after<C: Ticks + Drop, R: Read, W: Write>(
     ensures begun { IfOk result (λ line. Listens span
         (begun_as C.to_come R.remaining W.contents own device timing ticks reader.old writer.old)
         (shown C.to_come R.remaining W.contents line reader.new writer.new)) }
+    ensures stopped { IfErr result (StopsBeginning span
+        (begun_as C.to_come R.remaining W.contents own device timing ticks reader.old writer.old)
+        (R.remaining (inner_of reader.new)) (W.contents (inner_of writer.new))) }
     ensures silent { result ≢ Err (BeginFault.Line AskFault.Write)
         → Keeps (W.contents (inner_of writer.old)) (W.contents (inner_of writer.new)) }
     ensures timing { ChecksTiming own device timing result }
+    ensures flushed { result ≢ Err (BeginFault.Line AskFault.Write) → StaysFlushed writer.old writer.new }
     ensures ports { ReportsFailedPorts (BeginFault.Line AskFault.Read) (BeginFault.Line AskFault.Write) result
         reader.new writer.new }
 {
@@ -177,6 +187,7 @@ pub fn listen<C: Ticks, R: Read, W: Write>(
     ensures stopped { IfErr result (λ fault. fault ≢ AskFault.Write → StopsListening span fault
         (shown C.to_come R.remaining W.contents line.old reader.old writer.old)
         (shown C.to_come R.remaining W.contents line.new reader.new writer.new)) }
+    ensures flushed { result ≢ Err AskFault.Write → StaysFlushed writer.old writer.new }
     ensures ports { ReportsFailedPorts AskFault.Read AskFault.Write result reader.new writer.new }
 {
     match take_turn(line, reader, writer) {
@@ -208,7 +219,8 @@ pub fn listen<C: Ticks, R: Read, W: Write>(
 ///
 /// `LineEnded` where [`END_READS`] reads of 0 bytes in a row took less than [`END_MS`]. `Read` and `Write` where the
 /// port has failed; what a failed writer took is not known. At all others, the frames of the turns before went out.
-/// `TooMany` after `u64::MAX` reads.
+/// `Clock` where the clock gave no reading, `Memory` where a packet or the opening of the request wanted some, `TooMany`
+/// after `u64::MAX` reads. At all but `Write` what was written has been flushed.
 ///
 /// [`END_READS`]: crate::END_READS
 /// [`END_MS`]: crate::END_MS
@@ -225,6 +237,7 @@ pub fn ask<C: Ticks, R: Read, W: Write>(
     ensures stopped { IfErr result (λ fault. fault ≢ AskFault.Write → AskStops command.now fault
         (shown C.to_come R.remaining W.contents line.old reader.old writer.old)
         (shown C.to_come R.remaining W.contents line.new reader.new writer.new)) }
+    ensures flushed { result ≢ Err AskFault.Write → StaysFlushed writer.old writer.new }
     ensures ports { ReportsFailedPorts AskFault.Read AskFault.Write result reader.new writer.new }
 {
     let number = match open(line, command, reader, writer) {
@@ -249,9 +262,10 @@ fn open<C: Ticks, R: Read, W: Write>(
         (shown C.to_come R.remaining W.contents line.old reader.old writer.old)
         (shown C.to_come R.remaining W.contents line.new reader.new writer.new)) }
     ensures works { OnOk result (has_failed reader.new ≡ false) }
-    ensures stopped { IfErr result (λ fault. fault ≢ AskFault.Write → Stops IsRefused fault
+    ensures stopped { IfErr result (λ fault. fault ≢ AskFault.Write → StopsOpening fault
         (shown C.to_come R.remaining W.contents line.old reader.old writer.old)
         (shown C.to_come R.remaining W.contents line.new reader.new writer.new)) }
+    ensures flushed { result ≢ Err AskFault.Write → StaysFlushed writer.old writer.new }
     ensures ports { ReportsFailedPorts AskFault.Read AskFault.Write result reader.new writer.new }
 {
     for _ in 0..u64::MAX {
@@ -286,6 +300,10 @@ fn open_now<C, W: Write>(
     ensures ticks { line.new.ticks ≡ line.old.ticks }
     ensures kept { IfErr result (λ fault. fault ≢ AskFault.Write → (fault ≡ AskFault.Memory)
         × Keeps (W.contents (inner_of writer.old)) (W.contents (inner_of writer.new))) }
+    ensures room { IfErr result (λ fault. fault ≢ AskFault.Write
+        → (accepts (held_of line.old.requester) (held_of line.old.requester).last ≡ true)
+        × (held_of line.old.requester).count < MAX_REMEMBERED) }
+    ensures flushed { result ≢ Err AskFault.Write → StaysFlushed writer.old writer.new }
     ensures write { ReportsFailed AskFault.Write result writer.new }
 {
     let opened = match line.requester.open(line.requester.last_moment(), command) {
@@ -314,6 +332,7 @@ fn follow<C: Ticks, R: Read, W: Write>(
     ensures stopped { IfErr result (λ fault. fault ≢ AskFault.Write → Stops (IsWaiting number) fault
         (shown C.to_come R.remaining W.contents line.old reader.old writer.old)
         (shown C.to_come R.remaining W.contents line.new reader.new writer.new)) }
+    ensures flushed { result ≢ Err AskFault.Write → StaysFlushed writer.old writer.new }
     ensures ports { ReportsFailedPorts AskFault.Read AskFault.Write result reader.new writer.new }
 {
     for _ in 0..u64::MAX {

@@ -17,7 +17,7 @@ pub(crate) struct Tries {
 
 impl Tries {
     ghost use Rattle.std.specs.Prelude.{◌≡◌, ◌<◌, ◌&&◌, true, nat_lt};
-    ghost use Rattle.mctpctl_ask.specs.Queries.{is_over, is_past, tried_again, tries_from};
+    ghost use Rattle.mctpctl_ask.specs.QueryTries.{is_over, is_past, tried_again, tries_from};
 
     /// The first one, that begins now.
     pub(crate) fn new(again: u32, most: u8, now: Moment) -> Tries

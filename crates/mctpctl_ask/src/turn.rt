@@ -1,14 +1,14 @@
 //! A turn of the loop: bytes are read, then the clock; packets come to the requester, and what is due is sent.
 
-ghost use Rattle.std.specs.Prelude.{◌≡◌, ◌≢◌, ◌≤◌, IfErr, OnOk, Err, false};
+ghost use Rattle.std.specs.Prelude.{◌≡◌, ◌≢◌, ◌≤◌, ℕ, List, ◌∷◌, IfErr, OnErr, OnOk, Err, false};
 ghost use Rattle.std.specs.Io.KnownBytes.{Appends, Keeps};
 ghost use Rattle.std.specs.List.{flat_map};
 ghost use Rattle.mctp_packet.specs.Ids.{IsMoment};
 ghost use Rattle.mctp_serial.specs.Readings.{after};
-ghost use Rattle.mctpctl_ask.specs.Asked.{TakesTurn, shown};
-ghost use Rattle.mctpctl_ask.specs.Queries.{SeesByte, TakesTurnSeeing, all_seen};
-ghost use Rattle.mctpctl_ask.specs.Turns.{HearsByte, framed, frames_of, memo_frames, received};
-ghost use Rattle.mctpctl_input.specs.Ports.{inner_of, has_failed, BothWork, ReportsFailed, ReportsFailedPorts};
+ghost use Rattle.mctpctl_ask.specs.Asked.{FailsTurn, TakesTurn, shown};
+ghost use Rattle.mctpctl_ask.specs.QueryTurns.{SeesByte, TakesTurnSeeing, all_seen};
+ghost use Rattle.mctpctl_ask.specs.Turns.{HearsByte, WantsMemory, framed, frames_of, memo_frames, received};
+ghost use Rattle.mctpctl_input.specs.Ports.{inner_of, has_failed, BothWork, ReportsFailed, ReportsFailedPorts, StaysFlushed};
 ghost use Rattle.mctpctl_serve.specs.Serving.{moment_after, packets_in};
 ghost use Rattle.pldm_requester.specs.Slots.{held_of};
 ghost use Rattle.pldm_requester.specs.Steps.{again_at, ticked_held};
@@ -16,7 +16,7 @@ ghost use Rattle.pldm_requester.specs.Steps.{again_at, ticked_held};
 use crate::fault::AskFault;
 use crate::line::AskingLine;
 use crate::wanted::Wanted;
-use mctp_packet::{MAX_MOMENT, Moment, Packets};
+use mctp_packet::{MAX_MOMENT, Memory, Moment, Packets};
 use mctp_serial::{FrameBytes, FrameEvent, FrameReader, frame};
 use mctpctl_input::Port;
 use mctpctl_serve::Ticks;
@@ -39,7 +39,10 @@ pub(crate) fn take_turn<C: Ticks, R: Read, W: Write>(
         (shown C.to_come R.remaining W.contents line.new reader.new writer.new)) }
     ensures kept { IfErr result (λ fault. fault ≢ AskFault.Write
         → Keeps (W.contents (inner_of writer.old)) (W.contents (inner_of writer.new))) }
-    ensures end { result ≢ Err AskFault.LineEnded }
+    ensures reason { IfErr result (λ fault. FailsTurn fault
+        (shown C.to_come R.remaining W.contents line.old reader.old writer.old)
+        (shown C.to_come R.remaining W.contents line.new reader.new writer.new)) }
+    ensures flushed { result ≢ Err AskFault.Write → StaysFlushed writer.old writer.new }
     ensures ports { ReportsFailedPorts AskFault.Read AskFault.Write result reader.new writer.new }
 {
     take_turn_seeing(line, &mut Wanted::nothing(), reader, writer)
@@ -58,7 +61,10 @@ pub(crate) fn take_turn_seeing<C: Ticks, R: Read, W: Write>(
         (shown C.to_come R.remaining W.contents line.new reader.new writer.new)) }
     ensures kept { IfErr result (λ fault. fault ≢ AskFault.Write
         → Keeps (W.contents (inner_of writer.old)) (W.contents (inner_of writer.new))) }
-    ensures end { result ≢ Err AskFault.LineEnded }
+    ensures reason { IfErr result (λ fault. FailsTurn fault
+        (shown C.to_come R.remaining W.contents line.old reader.old writer.old)
+        (shown C.to_come R.remaining W.contents line.new reader.new writer.new)) }
+    ensures flushed { result ≢ Err AskFault.Write → StaysFlushed writer.old writer.new }
     ensures ports { ReportsFailedPorts AskFault.Read AskFault.Write result reader.new writer.new }
 {
     let mut room = [0; PIECE];
@@ -69,13 +75,15 @@ pub(crate) fn take_turn_seeing<C: Ticks, R: Read, W: Write>(
         return Err(AskFault::Clock);
     };
     let now = moment_after(line.requester.last_moment(), reading);
-    hear(
+    let Ok(()) = hear(
         &mut line.frames,
         &mut line.requester,
         wanted,
         now,
         &room[..count],
-    )?;
+    ) else {
+        return Err(AskFault::Memory);
+    };
     send_due(&mut line.requester, now, writer)?;
     line.quiet.take(count == 0, now);
     Ok(())
@@ -98,14 +106,14 @@ fn hear(
     wanted: &mut Wanted<'_>,
     now: Moment,
     piece: &[u8],
-) -> Result<(), AskFault>
+) -> Result<(), Memory>
     requires { (held_of requester.old).last ≤ now }
     ensures frames { OnOk result (frames.new ≡ after frames.old piece.now) }
     ensures held { OnOk result (held_of requester.new
         ≡ received (held_of requester.old) now (packets_in frames.old piece.now)) }
     ensures seen { OnOk result (wanted.new ≡ all_seen wanted.old (packets_in frames.old piece.now)) }
     ensures last { OnOk result ((held_of requester.new).last ≤ now) }
-    ensures fault { IfErr result (λ fault. fault ≡ AskFault.Memory) }
+    ensures memory { OnErr result (WantsMemory (held_of requester.old) now (packets_in frames.old piece.now)) }
 {
     let mut rest = piece;
     while let Some((byte, others)) = rest.split_first() {
@@ -123,20 +131,21 @@ fn hear_byte(
     wanted: &mut Wanted<'_>,
     now: Moment,
     byte: u8,
-) -> Result<(), AskFault>
+) -> Result<(), Memory>
     requires { (held_of requester.old).last ≤ now }
     ensures heard { OnOk result (HearsByte (held_of requester.old) frames.old now byte (held_of requester.new)
         frames.new) }
     ensures seen { OnOk result (SeesByte wanted.old frames.old byte wanted.new) }
     ensures last { OnOk result ((held_of requester.new).last ≤ now) }
-    ensures fault { IfErr result (λ fault. fault ≡ AskFault.Memory) }
+    ensures memory { OnErr result ((bytes : List ℕ)
+        → WantsMemory (held_of requester.old) now (packets_in frames.old (byte ∷ bytes))) }
 {
     match frames.take(byte) {
         FrameEvent::Packet(packet) => {
             wanted.see(&packet);
             match requester.receive(now, &packet) {
                 Ok(_) => Ok(()),
-                Err(_) => Err(AskFault::Memory),
+                Err(memory) => Err(memory),
             }
         }
         FrameEvent::Nothing | FrameEvent::Dropped(_) => Ok(()),
@@ -155,6 +164,7 @@ fn send_due<W: Write>(
     ensures held { OnOk result (held_of requester.new ≡ ticked_held (held_of requester.old) now) }
     ensures bytes { OnOk result (Appends (W.contents (inner_of writer.old)) (W.contents (inner_of writer.new))
         (frames_of (held_of requester.old) (again_at (held_of requester.old) now))) }
+    ensures flushed { OnOk result (StaysFlushed writer.old writer.new) }
     ensures fault { IfErr result (λ fault. fault ≡ AskFault.Write) }
     ensures write { ReportsFailed AskFault.Write result writer.new }
 {
@@ -171,6 +181,7 @@ fn send_requests<W: Write>(
     requires { has_failed writer.old ≡ false }
     ensures bytes { OnOk result (Appends (W.contents (inner_of writer.old)) (W.contents (inner_of writer.new))
         (frames_of (held_of requester.now) numbers.now)) }
+    ensures flushed { OnOk result (StaysFlushed writer.old writer.new) }
     ensures fault { IfErr result (λ fault. fault ≡ AskFault.Write) }
     ensures write { ReportsFailed AskFault.Write result writer.new }
 {
@@ -192,6 +203,7 @@ pub(crate) fn send_request<W: Write>(
     requires { has_failed writer.old ≡ false }
     ensures bytes { OnOk result (Appends (W.contents (inner_of writer.old)) (W.contents (inner_of writer.new))
         (memo_frames ((held_of requester.now).remembered number))) }
+    ensures flushed { OnOk result (StaysFlushed writer.old writer.new) }
     ensures fault { IfErr result (λ fault. fault ≡ AskFault.Write) }
     ensures write { ReportsFailed AskFault.Write result writer.new }
 {

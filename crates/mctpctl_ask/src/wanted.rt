@@ -13,7 +13,7 @@ pub(crate) struct Wanted<'q> {
 
 impl<'q> Model for Wanted<'q> {
     ghost use Rattle.std.specs.Prelude.{option_map};
-    ghost use Rattle.mctpctl_ask.specs.Queries.{WantedAnswer};
+    ghost use Rattle.mctpctl_ask.specs.QueryTurns.{WantedAnswer};
 
     ghost Value = { WantedAnswer };
 
@@ -25,7 +25,7 @@ impl<'q> Model for Wanted<'q> {
 
 impl<'q> Wanted<'q> {
     ghost use Rattle.std.specs.Prelude.{◌≡◌, None, Some, is_none, option_map};
-    ghost use Rattle.mctpctl_ask.specs.Queries.{seen, wanted_of};
+    ghost use Rattle.mctpctl_ask.specs.QueryTurns.{seen, wanted_of};
 
     /// No answer.
     pub(crate) fn nothing() -> Wanted<'q>

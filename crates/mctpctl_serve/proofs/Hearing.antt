@@ -201,6 +201,7 @@ module _ {P S L : Type 0} (performing : P → List Command → P → Type 0) (de
     watch1 = s1.watch;
     hears = hears_kept in_turn s xs s1 s2 f stops.kept stops.none_performed stops.bounds;
     seen = stops.seen;
+    reason = stops.reason;
   }
 
   -- so is what was heard of a piece, after what was heard before
@@ -220,6 +221,7 @@ module _ {P S L : Type 0} (performing : P → List Command → P → Type 0) (de
         watch1 = g.watch1;
         hears = hears_after in_turn s xs g.front s1 middle f g.hears;
         seen = g.seen;
+        reason = g.reason;
       } where
         found : (all now end : Option (List ℕ)) (taken piece front : List ℕ) (back : Option (List ℕ))
             → Consumes all now taken → Consumes now end piece → Consumes (Some piece) back front

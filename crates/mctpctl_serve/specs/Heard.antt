@@ -7,6 +7,7 @@ use Rattle.std.specs.List.{FoldsTo}
 use Rattle.mctp_serial.specs.Readings.{Reading, after}
 use Rattle.mctpctl_input.specs.Ports.{inner_of}
 use Rattle.mctpctl_input.specs.declared.port.Port.{Port}
+use Rattle.mctpctl_serve.specs.Clocks.{HasNoMore}
 use Rattle.mctpctl_serve.specs.Events.{Seen, Came}
 use Rattle.mctpctl_serve.specs.Serving.{Answerers, answerers, answers, came, commands, moment_after}
 use Rattle.mctpctl_serve.specs.Serving.{packet_after, packet_frames, packets_after, packets_in}
@@ -48,11 +49,18 @@ abbrev pub SeesAt : {L : Type 0} → (L → Seen → L → Type 0) → ServeFaul
 SeesAt sees fault.Memory watch watch1 = (moment : ℕ) × (packet : List ℕ) × sees watch (Came moment packet) watch1
 SeesAt sees _ watch watch1 = watch1 ≡ watch
 
+-- why a line stops at a fault, by the readings of the clock that were to come: that a port has failed stands in a clause
+-- of its own
+abbrev pub StopsFor : ServeFault → Option (List ℕ) → Type 0
+StopsFor fault.Clock clock = HasNoMore clock
+StopsFor _ clock = Unit {0}
+
 -- the line stopped at a fault: nothing was written, and no command performed
 pub record Stops {P S L : Type 0} (performing : P → List Command → P → Type 0) (sees : L → Seen → L → Type 0)
     (fault : ServeFault) (s s1 : Shown P S L) : Type 0 where
   pub kept : Keeps s.written s1.written
   pub seen : SeesAt sees fault s.watch s1.watch
+  pub reason : StopsFor fault s.clock
   pub none_performed : performing s.platform [] s1.platform
   pub bounds : s1.bounds ≡ s.bounds
 
@@ -113,3 +121,4 @@ module _ {P S L : Type 0} (performing : P → List Command → P → Type 0) (de
       watch = watch1;
     })
     pub seen : SeesAt sees fault watch1 s1.watch
+    pub reason : StopsFor fault clock1

@@ -1,3 +1,4 @@
+pub mod Clocks
 pub mod Events
 pub mod Heard
 pub mod Laws

@@ -1,14 +1,14 @@
 //! The loop: bytes are read, each packet is answered at its moment, and the answer is written and flushed
 //! before more is read.
 
-ghost use Rattle.std.specs.Prelude.{◌≡◌, ◌≢◌, ℕ, List, [], ◌∷◌, Some, Err, IfErr, OnOk, IfSome, IsErrOf, max, min, ◌≤◌, ◌<◌, ◌==◌, false};
+ghost use Rattle.std.specs.Prelude.{◌≡◌, ◌≢◌, ℕ, List, [], ◌∷◌, Some, Err, IfErr, OnOk, IfSome, IsErrOf, max, min, ◌≤◌, ◌<◌, ◌==◌, false, true};
 ghost use Rattle.std.specs.Io.KnownBytes.{Appends, Consumes};
 ghost use Rattle.std.specs.List.{FoldsTo, flat_map};
 ghost use Rattle.mctp_control.specs.Dropped.{control_left, control_reply};
 ghost use Rattle.mctp_packet.specs.Ids.{IsMoment};
 ghost use Rattle.mctp_packet.specs.Pieces.{written_packets};
 ghost use Rattle.mctp_serial.specs.Frames.{frame};
-ghost use Rattle.mctpctl_input.specs.Ports.{inner_of, has_failed, BothWork, ReportsFailed, ReportsFailedPorts};
+ghost use Rattle.mctpctl_input.specs.Ports.{inner_of, has_failed, is_flushed, BothWork, ReportsFailed, ReportsFailedPorts, StaysFlushed};
 ghost use Rattle.mctpctl_serve.specs.Heard.{Hears, HearsFront, HearsPacket, HearsTaken, Stops, shown};
 ghost use Rattle.mctpctl_serve.specs.Serving.{frames_if, moment_after, with_eid};
 ghost use Rattle.mctpctl_serve.specs.Seen.{drop_seen};
@@ -64,6 +64,7 @@ fn send<W: Write>(frames: &[u8], writer: &mut Port<W>) -> Result<(), ServeFault>
     requires { has_failed writer.old ≡ false }
     ensures bytes { OnOk result
         (Appends (W.contents (inner_of writer.old)) (W.contents (inner_of writer.new)) frames.now) }
+    ensures flushed { OnOk result (is_flushed writer.new ≡ true) }
     ensures fault { IfErr result (λ fault. fault ≡ ServeFault.Write) }
     ensures write { ReportsFailed ServeFault.Write result writer.new }
 {
@@ -87,6 +88,7 @@ fn hear_packet<P: Platform, C: Ticks, L: Watch, W: Write>(
     ensures frames { line.new.frames ≡ line.old.frames }
     ensures stopped { IfErr result (λ fault. fault ≢ ServeFault.Write → Stops P.performed L.sees fault
         (shown C.to_come W.contents line.old writer.old) (shown C.to_come W.contents line.new writer.new)) }
+    ensures flushed { result ≢ Err ServeFault.Write → StaysFlushed writer.old writer.new }
     ensures read { result ≢ Err ServeFault.Read }
     ensures write { ReportsFailed ServeFault.Write result writer.new }
 {
@@ -134,6 +136,7 @@ fn answer_drop<L: Watch, W: Write>(
     ensures control { control.new ≡ control_left control.old now reason packet.now }
     ensures seen { OnOk result
         (FoldsTo L.sees watch.old (drop_seen now reason (control_reply control.old now reason packet.now)) watch.new) }
+    ensures flushed { OnOk result (StaysFlushed writer.old writer.new) }
     ensures fault { IfErr result (λ fault. fault ≡ ServeFault.Write) }
     ensures write { ReportsFailed ServeFault.Write result writer.new }
 {
@@ -183,6 +186,7 @@ fn hear_byte<P: Platform, C: Ticks, L: Watch, W: Write>(
         (shown C.to_come W.contents line.old writer.old) (byte ∷ []) (shown C.to_come W.contents line.new writer.new)) }
     ensures stopped { IfErr result (λ fault. fault ≢ ServeFault.Write → Stops P.performed L.sees fault
         (shown C.to_come W.contents line.old writer.old) (shown C.to_come W.contents line.new writer.new)) }
+    ensures flushed { result ≢ Err ServeFault.Write → StaysFlushed writer.old writer.new }
     ensures read { result ≢ Err ServeFault.Read }
     ensures write { ReportsFailed ServeFault.Write result writer.new }
 {
@@ -210,6 +214,7 @@ fn hear_piece<P: Platform, C: Ticks, L: Watch, W: Write>(
         → HearsFront P.performed (rules_of P.answer P.after P.sensed) L.sees
         (shown C.to_come W.contents line.old writer.old) (Some piece.now) fault
         (shown C.to_come W.contents line.new writer.new)) }
+    ensures flushed { result ≢ Err ServeFault.Write → StaysFlushed writer.old writer.new }
     ensures read { result ≢ Err ServeFault.Read }
     ensures write { ReportsFailed ServeFault.Write result writer.new }
 {
@@ -234,8 +239,9 @@ fn hear_piece<P: Platform, C: Ticks, L: Watch, W: Write>(
 /// `Read` where the read port has failed: the answers to all packets whose frames ended in what was read
 /// have been written. `Write` where the write port has failed; what a failed writer took is not known, and
 /// nothing is said of the platform and of the responder's bounds then.
-/// At `Clock` and `Memory` the answers to the packets before have been written, and their commands were
-/// performed. `TooMany` after `u64::MAX` pieces.
+/// At `Clock`, which comes only where the clock gave no reading, and `Memory` the answers to the packets before have
+/// been written, and their commands were performed. `TooMany` after `u64::MAX` pieces. At all ends but `Write` what was
+/// written has been flushed.
 pub fn serve<P: Platform, C: Ticks, L: Watch, R: Read, W: Write>(
     line: &mut ServedLine<P, C, L>,
     reader: &mut Port<R>,
@@ -253,6 +259,7 @@ pub fn serve<P: Platform, C: Ticks, L: Watch, R: Read, W: Write>(
         → HearsFront P.performed (rules_of P.answer P.after P.sensed) L.sees
         (shown C.to_come W.contents line.old writer.old) (R.remaining (inner_of reader.old)) fault
         (shown C.to_come W.contents line.new writer.new)) }
+    ensures flushed { result ≢ Err ServeFault.Write → StaysFlushed writer.old writer.new }
     ensures ports { ReportsFailedPorts ServeFault.Read ServeFault.Write result reader.new writer.new }
 {
     let mut reply = Body::new();

@@ -1,7 +1,9 @@
 //! The clock that a serial line is served by: readings in milliseconds.
 
-ghost use Rattle.std.specs.Prelude.{ℕ, List, [], ◌∷◌, Option, None, Some, IfOk};
+ghost use Rattle.std.specs.Prelude.{◌≡◌, ℕ, List, [], ◌∷◌, Option, None, Some, IfOk, OnErr};
 ghost use Rattle.std.specs.Io.KnownBytes.{Consumes};
+ghost use Rattle.std.specs.Time.{instant_nanos};
+ghost use Rattle.mctpctl_serve.specs.Clocks.{HasNoMore, milliseconds_between, latest_of, start_of};
 
 use std::io;
 use std::io::{Error, ErrorKind};
@@ -13,9 +15,10 @@ pub trait Ticks {
     // the readings to come, where they are known
     ghost to_come: { Self → Option (List ℕ) };
 
-    /// The next reading.
+    /// The next reading. Where the readings are known, there is an error only after the last one.
     fn tick(&mut self) -> io::Result<u64>
-        ensures { IfOk result (λ n. Consumes (to_come self.old) (to_come self.new) (n ∷ [])) };
+        ensures reading { IfOk result (λ n. Consumes (to_come self.old) (to_come self.new) (n ∷ [])) }
+        ensures none { OnErr result (HasNoMore (to_come self.old)) };
 }
 
 /// The milliseconds since a start, by the monotonic clock of the system.
@@ -23,6 +26,8 @@ pub trait Ticks {
 pub struct SystemTicks<'c, C: Clock> {
     clock: &'c C,
     start: Instant,
+    /// What the clock said last.
+    latest: Instant,
 }
 
 impl<'c, C: Clock> SystemTicks<'c, C> {
@@ -33,17 +38,34 @@ impl<'c, C: Clock> SystemTicks<'c, C> {
     /// That of the clock.
     pub fn new(clock: &'c C) -> io::Result<SystemTicks<'c, C>> {
         let start = Instant::now(clock)?;
-        Ok(SystemTicks { clock, start })
+        Ok(SystemTicks {
+            clock,
+            start,
+            latest: start,
+        })
     }
 }
 
 impl<C: Clock> Ticks for SystemTicks<'_, C> {
     ghost to_come = { λ _. None };
 
-    fn tick(&mut self) -> io::Result<u64> {
-        let elapsed = self.start.elapsed(self.clock)?;
-        Ok(u64::try_from(elapsed.as_millis()).unwrap_or(u64::MAX))
+    /// The milliseconds from the start, which stays, to what the clock says now.
+    fn tick(&mut self) -> io::Result<u64>
+        ensures reading { IfOk result (λ n. Consumes None None (n ∷ [])) }
+        ensures none { OnErr result (HasNoMore None) }
+        ensures start { start_of self.new ≡ start_of self.old }
+        ensures since { IfOk result (λ n. n ≡ milliseconds_between (start_of self.old) (latest_of self.new)) }
+    {
+        self.latest = Instant::now(self.clock)?;
+        Ok(milliseconds_between(self.start, self.latest))
     }
+}
+
+/// The whole milliseconds from one instant to another: none where that is before it.
+fn milliseconds_between(start: Instant, now: Instant) -> u64
+    ensures { result ≡ milliseconds_between (instant_nanos start) (instant_nanos now) }
+{
+    u64::try_from(now.duration_since(start).as_millis()).unwrap_or(u64::MAX)
 }
 
 /// Readings that are given, the next one first. After the last there is an error.

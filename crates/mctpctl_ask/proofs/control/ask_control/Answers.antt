@@ -1,9 +1,12 @@
 -- One turn further, while the answer is awaited.
-use Rattle.std.proofs.Common.{◌≡◌, ◌≢◌, true, false, None, Some, Err, is_none, refl, sym, ap, subst, ◌∙◌, rules}
+use Rattle.std.proofs.Common.{◌≡◌, true, false, None, Some, is_none, refl, sym, ap, subst, ◌∙◌, rules, arith}
 use Rattle.std.proofs.KnownBytes.{Keeps-refl}
 use Rattle.mctpctl_ask.proofs.Awaiting.{begun, ended, more, none_open, open_none, stops}
+use Rattle.mctpctl_ask.proofs.Going.{failed_turn, one_more}
 use Rattle.mctpctl_ask.specs.Asked.{shown}
-use Rattle.mctpctl_ask.specs.Queries.{AwaitsSo, WantedAnswer, is_over, tries_from, wanted_of}
+use Rattle.mctpctl_ask.specs.QueryTries.{is_over, tries_from}
+use Rattle.mctpctl_ask.specs.QueryTurns.{WantedAnswer, wanted_of}
+use Rattle.mctpctl_ask.proofs.Awaiting.{AwaitsSo}
 use Rattle.mctpctl_ask.specs.Turns.{is_end}
 use Rattle.mctpctl_ask.specs.declared.fault.AskFault.TheVariants.{LineEnded, TooMany}
 use Rattle.mctpctl_ask.specs.declared.tries.Tries.{Tries}
@@ -21,6 +24,8 @@ loop-init g c =
           subst (λ (w : WantedAnswer). AwaitsSo c.args.query.now c.args.again c.args.tries w c.new-tried.result s s1) (sym c.answer_to-wanted.ensures)
           (subst (λ (t : Tries). AwaitsSo c.args.query.now c.args.again c.args.tries (wanted_of (Some c.args.query.now) None) t s s1) (sym first)
           (begun c.args.query.now c.args.again c.args.tries s s1 refl refl refl c.in-Ok.ensures.bytes));
+      count = refl;
+      flushed = search rules;
       reads = search rules;
       writes = search rules;
     }
@@ -43,17 +48,16 @@ returns-then-is_end-clause-stopped g c =
     (shown g.C.Ticks.to_come g.R.Read.remaining g.W.Write.contents c.args.line.now c.args.reader.now c.args.writer.now)
     (shown g.C.Ticks.to_come g.R.Read.remaining g.W.Write.contents c.loop.line c.loop.reader c.loop.writer)
     (shown g.C.Ticks.to_come g.R.Read.remaining g.W.Write.contents c.loop.line c.loop.reader c.loop.writer)
-    c.loop.invariant.so (Keeps-refl (g.W.Write.contents c.loop.writer.inner)) (λ _. over)
+    c.loop.invariant.so (Keeps-refl (g.W.Write.contents c.loop.writer.inner)) over
 
 pub returns-in-Err-take_query_turn-clause-stopped : goal.returns-in-Err-take_query_turn-clause-stopped
 returns-in-Err-take_query_turn-clause-stopped g c =
-    let not_ended : c.in-Err-take_query_turn.fault ≢ LineEnded = λ e. c.in-Err-take_query_turn.ensures.end (λ i. Err (e i)) in
     λ other.
     stops c.args.query.now c.args.again c.args.tries c.loop.wanted c.loop.tried c.in-Err-take_query_turn.fault
     (shown g.C.Ticks.to_come g.R.Read.remaining g.W.Write.contents c.args.line.now c.args.reader.now c.args.writer.now)
     (shown g.C.Ticks.to_come g.R.Read.remaining g.W.Write.contents c.loop.line c.loop.reader c.loop.writer)
     (shown g.C.Ticks.to_come g.R.Read.remaining g.W.Write.contents c.take_query_turn.new.line c.take_query_turn.new.reader c.take_query_turn.new.writer)
-    c.loop.invariant.so (c.in-Err-take_query_turn.ensures.kept other) (λ e. absurd (not_ended e))
+    c.loop.invariant.so (c.in-Err-take_query_turn.ensures.kept other) (failed_turn c.in-Err-take_query_turn.fault c.loop.invariant.so.awaits.turns (shown g.C.Ticks.to_come g.R.Read.remaining g.W.Write.contents c.loop.line c.loop.reader c.loop.writer) (shown g.C.Ticks.to_come g.R.Read.remaining g.W.Write.contents c.take_query_turn.new.line c.take_query_turn.new.reader c.take_query_turn.new.writer) c.in-Err-take_query_turn.ensures.reason)
 
 pub loop-preserved : goal.loop-preserved
 loop-preserved g c =
@@ -67,6 +71,8 @@ loop-preserved g c =
           (shown g.C.Ticks.to_come g.R.Read.remaining g.W.Write.contents c.loop.line c.loop.reader c.loop.writer)
           (shown g.C.Ticks.to_come g.R.Read.remaining g.W.Write.contents c.take_query_turn.new.line c.take_query_turn.new.reader c.take_query_turn.new.writer)
           c.loop.invariant.so going (open_none c.loop.wanted.answer unanswered) lasts c.in-Ok-take_query_turn.ensures.turned;
+      count = one_more c.in-Ok-take_query_turn.ensures.turned.turn c.loop.invariant.so.awaits.turns c.loop.counter c.loop.invariant.count;
+      flushed = search rules;
       reads = search rules;
       writes = search rules;
     }
@@ -78,4 +84,4 @@ returns-clause-stopped g c =
     (shown g.C.Ticks.to_come g.R.Read.remaining g.W.Write.contents c.args.line.now c.args.reader.now c.args.writer.now)
     (shown g.C.Ticks.to_come g.R.Read.remaining g.W.Write.contents c.loop.line c.loop.reader c.loop.writer)
     (shown g.C.Ticks.to_come g.R.Read.remaining g.W.Write.contents c.loop.line c.loop.reader c.loop.writer)
-    c.loop.invariant.so (Keeps-refl (g.W.Write.contents c.loop.writer.inner)) (λ (e : TooMany ≡ LineEnded). cc)
+    c.loop.invariant.so (Keeps-refl (g.W.Write.contents c.loop.writer.inner)) (omega arith)

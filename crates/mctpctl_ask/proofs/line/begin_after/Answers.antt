@@ -1,9 +1,9 @@
 -- A new line listened, and nothing was written.
 use Rattle.std.proofs.Common.{◌≡◌, refl, ap, ◌∙◌, rules, Err}
-use Rattle.mctpctl_ask.proofs.Going.{begun_so}
+use Rattle.mctpctl_ask.proofs.Going.{begun_so, stopped_so}
 use Rattle.mctpctl_ask.proofs.SameHeld.{same_held}
 use Rattle.mctpctl_ask.proofs.Silent.{listens_silent, stops_silent}
-use Rattle.mctpctl_ask.specs.Asked.{begun_as, shown}
+use Rattle.mctpctl_ask.specs.Asked.{asking_of, begun_as, shown}
 use Rattle.mctpctl_ask.specs.Turns.{quiet_from}
 use Rattle.mctpctl_ask.specs.declared.fault.BeginFault.TheVariants.{Line}
 use Rattle.mctpctl_ask.proofs.line.begin_after.Goals as goal
@@ -40,3 +40,19 @@ returns-in-Err-listen-clause-silent g c =
     (shown g.C.Ticks.to_come g.R.Read.remaining g.W.Write.contents c.listen.new.line c.listen.new.reader c.listen.new.writer)
     c.in-Ok.ensures.held.count
     (c.in-Err-listen.ensures.stopped (λ e. other (λ i. Err (Line (e i)))))
+
+pub returns-in-Err-listen-clause-stopped : goal.returns-in-Err-listen-clause-stopped
+returns-in-Err-listen-clause-stopped g c =
+    let none : c.unwrap.result ≡ 0 = search rules in
+    λ other. (
+      asking_of c.listen.new.line,
+      g.C.Ticks.to_come c.listen.new.line.ticks,
+      stopped_so c.args.span c.in-Err-listen.fault
+          (shown g.C.Ticks.to_come g.R.Read.remaining g.W.Write.contents
+          (record { frames = c.new-2.result; requester = c.in-Ok.requester; quiet = c.new-4.result; ticks = c.args.ticks })
+          c.args.reader.now c.args.writer.now)
+          (begun_as g.C.Ticks.to_come g.R.Read.remaining g.W.Write.contents c.args.own c.args.device c.args.timing c.args.ticks c.args.reader.now c.args.writer.now)
+          (shown g.C.Ticks.to_come g.R.Read.remaining g.W.Write.contents c.listen.new.line c.listen.new.reader c.listen.new.writer)
+          (same_held c.in-Ok.ensures.held) c.new-2.ensures (c.new-4.ensures ∙ ap quiet_from none)
+          refl refl refl (c.in-Err-listen.ensures.stopped other),
+    )

@@ -1,13 +1,24 @@
 -- One turn further, while the request is open.
-use Rattle.std.proofs.Common.{◌≡◌, ◌≢◌, true, false, None, Err, rules}
+use Rattle.std.proofs.Common.{◌≡◌, true, false, None, refl, rules, arith}
 use Rattle.std.proofs.KnownBytes.{Keeps-refl}
-use Rattle.mctpctl_ask.proofs.Going.{goes_on, stops}
+use Rattle.mctpctl_ask.proofs.Going.{failed_turn, goes_nowhere, goes_on, one_more, stops}
 use Rattle.mctpctl_ask.specs.Asked.{shown}
 use Rattle.mctpctl_ask.specs.Ends.{IsWaiting, ended_of}
 use Rattle.mctpctl_ask.specs.Turns.{is_end}
 use Rattle.mctpctl_ask.specs.declared.fault.AskFault.TheVariants.{LineEnded, TooMany}
 use Rattle.pldm_requester.specs.Slots.{held_of}
 use Rattle.mctpctl_ask.proofs.line.follow.Goals as goal
+
+pub loop-init : goal.loop-init
+loop-init g c = record {
+  goes =
+      goes_nowhere (IsWaiting c.args.number)
+      (shown g.C.Ticks.to_come g.R.Read.remaining g.W.Write.contents c.args.line.now c.args.reader.now c.args.writer.now);
+  count = refl;
+  flushed = λ was. was;
+  reads = search rules;
+  writes = search rules;
+}
 
 pub returns-then-is_end-clause-stopped : goal.returns-then-is_end-clause-stopped
 returns-then-is_end-clause-stopped g c =
@@ -17,17 +28,16 @@ returns-then-is_end-clause-stopped g c =
     (shown g.C.Ticks.to_come g.R.Read.remaining g.W.Write.contents c.args.line.now c.args.reader.now c.args.writer.now)
     (shown g.C.Ticks.to_come g.R.Read.remaining g.W.Write.contents c.loop.line c.loop.reader c.loop.writer)
     (shown g.C.Ticks.to_come g.R.Read.remaining g.W.Write.contents c.loop.line c.loop.reader c.loop.writer)
-    c.loop.invariant.goes (Keeps-refl (g.W.Write.contents c.loop.writer.inner)) (λ _. ended)
+    c.loop.invariant.goes (Keeps-refl (g.W.Write.contents c.loop.writer.inner)) ended
 
 pub returns-in-Err-clause-stopped : goal.returns-in-Err-clause-stopped
 returns-in-Err-clause-stopped g c =
-    let not_ended : c.in-Err.fault ≢ LineEnded = λ e. c.in-Err.ensures.end (λ i. Err (e i)) in
     λ other.
     stops (IsWaiting c.args.number) c.in-Err.fault
     (shown g.C.Ticks.to_come g.R.Read.remaining g.W.Write.contents c.args.line.now c.args.reader.now c.args.writer.now)
     (shown g.C.Ticks.to_come g.R.Read.remaining g.W.Write.contents c.loop.line c.loop.reader c.loop.writer)
     (shown g.C.Ticks.to_come g.R.Read.remaining g.W.Write.contents c.take_turn.new.line c.take_turn.new.reader c.take_turn.new.writer)
-    c.loop.invariant.goes (c.in-Err.ensures.kept other) (λ e. absurd (not_ended e))
+    c.loop.invariant.goes (c.in-Err.ensures.kept other) (failed_turn c.in-Err.fault c.loop.invariant.goes.turns (shown g.C.Ticks.to_come g.R.Read.remaining g.W.Write.contents c.loop.line c.loop.reader c.loop.writer) (shown g.C.Ticks.to_come g.R.Read.remaining g.W.Write.contents c.take_turn.new.line c.take_turn.new.reader c.take_turn.new.writer) c.in-Err.ensures.reason)
 
 pub loop-preserved : goal.loop-preserved
 loop-preserved g c =
@@ -40,6 +50,8 @@ loop-preserved g c =
           (shown g.C.Ticks.to_come g.R.Read.remaining g.W.Write.contents c.loop.line c.loop.reader c.loop.writer)
           (shown g.C.Ticks.to_come g.R.Read.remaining g.W.Write.contents c.take_turn.new.line c.take_turn.new.reader c.take_turn.new.writer)
           c.loop.invariant.goes (going, waiting) c.in-Ok.ensures.turned;
+      count = one_more c.in-Ok.ensures.turned.turn c.loop.invariant.goes.turns c.loop.counter c.loop.invariant.count;
+      flushed = search rules;
       reads = search rules;
       writes = search rules;
     }
@@ -51,4 +63,4 @@ returns-clause-stopped g c =
     (shown g.C.Ticks.to_come g.R.Read.remaining g.W.Write.contents c.args.line.now c.args.reader.now c.args.writer.now)
     (shown g.C.Ticks.to_come g.R.Read.remaining g.W.Write.contents c.loop.line c.loop.reader c.loop.writer)
     (shown g.C.Ticks.to_come g.R.Read.remaining g.W.Write.contents c.loop.line c.loop.reader c.loop.writer)
-    c.loop.invariant.goes (Keeps-refl (g.W.Write.contents c.loop.writer.inner)) (λ (e : TooMany ≡ LineEnded). cc)
+    c.loop.invariant.goes (Keeps-refl (g.W.Write.contents c.loop.writer.inner)) (omega arith)

@@ -1,5 +1,5 @@
 -- Turns were taken meanwhile.
-use Rattle.std.proofs.Common.{◌≡◌, false}
+use Rattle.std.proofs.Common.{◌≡◌, false, true, length}
 use Rattle.mctpctl_ask.specs.Asked.{Goes, shown}
 use Rattle.mctpctl_ask.specs.Ends.{IsWaiting}
 use Rattle.mctpctl_ask.proofs.line.follow.Given as goal
@@ -9,6 +9,8 @@ invariant-loop g l = record {
   goes : Goes (IsWaiting l.number)
       (shown g.C.Ticks.to_come g.R.Read.remaining g.W.Write.contents l.initial.line l.initial.reader l.initial.writer)
       (shown g.C.Ticks.to_come g.R.Read.remaining g.W.Write.contents l.line l.reader l.writer);
+  count : length goes.turns ≡ l.counter;
+  flushed : l.initial.writer.flushed ≡ true → l.writer.flushed ≡ true;
   reads : l.reader.failed ≡ false;
   writes : l.writer.failed ≡ false;
 }

@@ -1,7 +1,7 @@
 -- One turn further, while the time has not passed.
-use Rattle.std.proofs.Common.{◌≡◌, ◌≢◌, ◌+◌, ◌≤◌, ◌<◌, true, false, Err, inr, ap, subst, ◌∙◌, rules}
+use Rattle.std.proofs.Common.{◌≡◌, ◌+◌, ◌≤◌, ◌<◌, true, false, inr, refl, ap, subst, ◌∙◌, rules, arith}
 use Rattle.std.proofs.KnownBytes.{Keeps-refl}
-use Rattle.mctpctl_ask.proofs.Going.{goes_nowhere, goes_on, stops}
+use Rattle.mctpctl_ask.proofs.Going.{failed_turn, goes_nowhere, goes_on, one_more, stops}
 use Rattle.mctpctl_ask.specs.Asked.{Goes, Stops, shown}
 use Rattle.mctpctl_ask.specs.Ends.{IsEarly}
 use Rattle.mctpctl_ask.specs.Turns.{is_end}
@@ -15,6 +15,8 @@ loop-init g c = record {
       goes_nowhere (IsEarly (c.get.result + c.args.span))
       (shown g.C.Ticks.to_come g.R.Read.remaining g.W.Write.contents c.take_turn.new.line c.take_turn.new.reader c.take_turn.new.writer);
   first = ap (λ n. n + c.args.span) (c.get.ensures.value ∙ c.last_moment.ensures);
+  count = refl;
+  flushed = λ was. was;
   reads = search rules;
   writes = search rules;
 }
@@ -44,12 +46,11 @@ returns-then-is_end-clause-stopped g c =
           (shown g.C.Ticks.to_come g.R.Read.remaining g.W.Write.contents c.take_turn.new.line c.take_turn.new.reader c.take_turn.new.writer)
           (shown g.C.Ticks.to_come g.R.Read.remaining g.W.Write.contents c.loop.line c.loop.reader c.loop.writer)
           (shown g.C.Ticks.to_come g.R.Read.remaining g.W.Write.contents c.loop.line c.loop.reader c.loop.writer)
-          c.loop.invariant.goes (Keeps-refl (g.W.Write.contents c.loop.writer.inner)) (λ _. ended));
+          c.loop.invariant.goes (Keeps-refl (g.W.Write.contents c.loop.writer.inner)) ended);
     })
 
 pub returns-in-Err-take_turn-clause-stopped : goal.returns-in-Err-take_turn-clause-stopped
 returns-in-Err-take_turn-clause-stopped g c =
-    let not_ended : c.in-Err-take_turn.fault ≢ LineEnded = λ e. c.in-Err-take_turn.ensures.end (λ i. Err (e i)) in
     λ other. inr (record {
       first = c.in-Ok.ensures.turned.turn;
       begun = (shown g.C.Ticks.to_come g.R.Read.remaining g.W.Write.contents c.take_turn.new.line c.take_turn.new.reader c.take_turn.new.writer);
@@ -60,7 +61,7 @@ returns-in-Err-take_turn-clause-stopped g c =
           (shown g.C.Ticks.to_come g.R.Read.remaining g.W.Write.contents c.take_turn.new.line c.take_turn.new.reader c.take_turn.new.writer)
           (shown g.C.Ticks.to_come g.R.Read.remaining g.W.Write.contents c.loop.line c.loop.reader c.loop.writer)
           (shown g.C.Ticks.to_come g.R.Read.remaining g.W.Write.contents c.take_turn-in-loop.new.line c.take_turn-in-loop.new.reader c.take_turn-in-loop.new.writer)
-          c.loop.invariant.goes (c.in-Err-take_turn.ensures.kept other) (λ e. absurd (not_ended e)));
+          c.loop.invariant.goes (c.in-Err-take_turn.ensures.kept other) (failed_turn c.in-Err-take_turn.fault c.loop.invariant.goes.turns (shown g.C.Ticks.to_come g.R.Read.remaining g.W.Write.contents c.loop.line c.loop.reader c.loop.writer) (shown g.C.Ticks.to_come g.R.Read.remaining g.W.Write.contents c.take_turn-in-loop.new.line c.take_turn-in-loop.new.reader c.take_turn-in-loop.new.writer) c.in-Err-take_turn.ensures.reason));
     })
 
 pub loop-preserved : goal.loop-preserved
@@ -75,6 +76,8 @@ loop-preserved g c =
           (shown g.C.Ticks.to_come g.R.Read.remaining g.W.Write.contents c.take_turn-in-loop.new.line c.take_turn-in-loop.new.reader c.take_turn-in-loop.new.writer)
           c.loop.invariant.goes (going, early) c.in-Ok-take_turn.ensures.turned;
       first = c.loop.invariant.first;
+      count = one_more c.in-Ok-take_turn.ensures.turned.turn c.loop.invariant.goes.turns c.loop.counter c.loop.invariant.count;
+      flushed = search rules;
       reads = search rules;
       writes = search rules;
     }
@@ -91,5 +94,5 @@ returns-clause-stopped g c =
           (shown g.C.Ticks.to_come g.R.Read.remaining g.W.Write.contents c.take_turn.new.line c.take_turn.new.reader c.take_turn.new.writer)
           (shown g.C.Ticks.to_come g.R.Read.remaining g.W.Write.contents c.loop.line c.loop.reader c.loop.writer)
           (shown g.C.Ticks.to_come g.R.Read.remaining g.W.Write.contents c.loop.line c.loop.reader c.loop.writer)
-          c.loop.invariant.goes (Keeps-refl (g.W.Write.contents c.loop.writer.inner)) (λ (e : TooMany ≡ LineEnded). cc));
+          c.loop.invariant.goes (Keeps-refl (g.W.Write.contents c.loop.writer.inner)) (omega arith));
     })

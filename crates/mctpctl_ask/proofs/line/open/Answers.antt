@@ -1,32 +1,44 @@
 -- One turn further, while no request may be opened.
-use Rattle.std.proofs.Common.{◌≡◌, ◌≢◌, ℕ, true, false, Option, Err, refl, ap, subst, rules}
+use Rattle.std.proofs.Common.{◌≡◌, ℕ, true, false, Option, inl, inr, refl, ap, subst, rules, arith}
 use Rattle.std.proofs.KnownBytes.{Keeps-refl}
-use Rattle.mctpctl_ask.proofs.Going.{goes_on, memory_is_no_end, refused, stops}
+use Rattle.mctpctl_ask.proofs.Going.{failed_turn, goes_nowhere, goes_on, one_more, refused, stops}
 use Rattle.mctpctl_ask.specs.Asked.{OpensNow, asking_of, shown}
 use Rattle.mctpctl_ask.specs.Ends.{IsRefused}
 use Rattle.mctpctl_ask.specs.Turns.{is_end}
 use Rattle.mctpctl_ask.specs.declared.fault.AskFault.TheVariants.{LineEnded, TooMany}
 use Rattle.mctpctl_ask.proofs.line.open.Goals as goal
 
+pub loop-init : goal.loop-init
+loop-init g c = record {
+  goes =
+      goes_nowhere IsRefused
+      (shown g.C.Ticks.to_come g.R.Read.remaining g.W.Write.contents c.args.line.now c.args.reader.now c.args.writer.now);
+  count = refl;
+  flushed = λ was. was;
+  reads = search rules;
+  writes = search rules;
+}
+
 pub returns-then-is_end-clause-stopped : goal.returns-then-is_end-clause-stopped
 returns-then-is_end-clause-stopped g c =
     let ended : is_end c.loop.line.quiet ≡ true = search rules in
-    λ other.
+    λ other. inl (
     stops IsRefused LineEnded
     (shown g.C.Ticks.to_come g.R.Read.remaining g.W.Write.contents c.args.line.now c.args.reader.now c.args.writer.now)
     (shown g.C.Ticks.to_come g.R.Read.remaining g.W.Write.contents c.loop.line c.loop.reader c.loop.writer)
     (shown g.C.Ticks.to_come g.R.Read.remaining g.W.Write.contents c.loop.line c.loop.reader c.loop.writer)
-    c.loop.invariant.goes (Keeps-refl (g.W.Write.contents c.loop.writer.inner)) (λ _. ended)
+    c.loop.invariant.goes (Keeps-refl (g.W.Write.contents c.loop.writer.inner)) ended)
 
 pub returns-in-Err-clause-stopped : goal.returns-in-Err-clause-stopped
 returns-in-Err-clause-stopped g c =
-    λ other.
-    let kept = c.in-Err.ensures.kept other in
-    stops IsRefused c.in-Err.fault
-    (shown g.C.Ticks.to_come g.R.Read.remaining g.W.Write.contents c.args.line.now c.args.reader.now c.args.writer.now)
-    (shown g.C.Ticks.to_come g.R.Read.remaining g.W.Write.contents c.loop.line c.loop.reader c.loop.writer)
-    (shown g.C.Ticks.to_come g.R.Read.remaining g.W.Write.contents c.open_now.new.line c.loop.reader c.open_now.new.writer)
-    c.loop.invariant.goes kept.1 (memory_is_no_end c.in-Err.fault kept.0)
+    λ other. inr (record {
+      last = (shown g.C.Ticks.to_come g.R.Read.remaining g.W.Write.contents c.loop.line c.loop.reader c.loop.writer);
+      goes = c.loop.invariant.goes;
+      kept = (c.in-Err.ensures.kept other).1;
+      no_memory = (c.in-Err.ensures.kept other).0;
+      accepted = (c.in-Err.ensures.room other).0;
+      grows = (c.in-Err.ensures.room other).1;
+    })
 
 pub returns-in-Some-clause-opened : goal.returns-in-Some-clause-opened
 returns-in-Some-clause-opened g c = record {
@@ -48,13 +60,12 @@ returns-in-Err-take_turn-clause-stopped g c =
     (shown g.C.Ticks.to_come g.R.Read.remaining g.W.Write.contents c.loop.line c.loop.reader c.loop.writer)
     (shown g.C.Ticks.to_come g.R.Read.remaining g.W.Write.contents c.open_now.new.line c.loop.reader c.open_now.new.writer)
     c.loop.invariant.goes going none.0 none.1 refl (ap g.C.Ticks.to_come c.in-Ok.ensures.ticks) none.2 in
-    let not_ended : c.in-Err-take_turn.fault ≢ LineEnded = λ e. c.in-Err-take_turn.ensures.end (λ i. Err (e i)) in
-    λ other.
+    λ other. inl (
     stops IsRefused c.in-Err-take_turn.fault
     (shown g.C.Ticks.to_come g.R.Read.remaining g.W.Write.contents c.args.line.now c.args.reader.now c.args.writer.now)
     (shown g.C.Ticks.to_come g.R.Read.remaining g.W.Write.contents c.open_now.new.line c.loop.reader c.open_now.new.writer)
     (shown g.C.Ticks.to_come g.R.Read.remaining g.W.Write.contents c.take_turn.new.line c.take_turn.new.reader c.take_turn.new.writer)
-    after.0 (c.in-Err-take_turn.ensures.kept other) (λ e. absurd (not_ended e))
+    after.0 (c.in-Err-take_turn.ensures.kept other) (failed_turn c.in-Err-take_turn.fault after.0.turns (shown g.C.Ticks.to_come g.R.Read.remaining g.W.Write.contents c.open_now.new.line c.loop.reader c.open_now.new.writer) (shown g.C.Ticks.to_come g.R.Read.remaining g.W.Write.contents c.take_turn.new.line c.take_turn.new.reader c.take_turn.new.writer) c.in-Err-take_turn.ensures.reason))
 
 pub loop-preserved : goal.loop-preserved
 loop-preserved g c =
@@ -72,15 +83,17 @@ loop-preserved g c =
           (shown g.C.Ticks.to_come g.R.Read.remaining g.W.Write.contents c.open_now.new.line c.loop.reader c.open_now.new.writer)
           (shown g.C.Ticks.to_come g.R.Read.remaining g.W.Write.contents c.take_turn.new.line c.take_turn.new.reader c.take_turn.new.writer)
           after.0 after.1 c.in-Ok-take_turn.ensures.turned;
+      count = one_more c.in-Ok-take_turn.ensures.turned.turn c.loop.invariant.goes.turns c.loop.counter c.loop.invariant.count;
+      flushed = search rules;
       reads = search rules;
       writes = search rules;
     }
 
 pub returns-clause-stopped : goal.returns-clause-stopped
 returns-clause-stopped g c =
-    λ other.
+    λ other. inl (
     stops IsRefused TooMany
     (shown g.C.Ticks.to_come g.R.Read.remaining g.W.Write.contents c.args.line.now c.args.reader.now c.args.writer.now)
     (shown g.C.Ticks.to_come g.R.Read.remaining g.W.Write.contents c.loop.line c.loop.reader c.loop.writer)
     (shown g.C.Ticks.to_come g.R.Read.remaining g.W.Write.contents c.loop.line c.loop.reader c.loop.writer)
-    c.loop.invariant.goes (Keeps-refl (g.W.Write.contents c.loop.writer.inner)) (λ (e : TooMany ≡ LineEnded). cc)
+    c.loop.invariant.goes (Keeps-refl (g.W.Write.contents c.loop.writer.inner)) (omega arith))

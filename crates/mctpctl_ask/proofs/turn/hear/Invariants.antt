@@ -1,8 +1,8 @@
 -- What is to come of the rest is what is to come of all.
 use Rattle.std.proofs.Common.{◌≡◌, ◌≤◌, length}
 use Rattle.mctp_serial.specs.Readings.{after}
-use Rattle.mctpctl_ask.specs.Queries.{all_seen}
-use Rattle.mctpctl_ask.specs.Turns.{received}
+use Rattle.mctpctl_ask.specs.QueryTurns.{all_seen}
+use Rattle.mctpctl_ask.specs.Turns.{WantsMemory, received}
 use Rattle.mctpctl_serve.specs.Serving.{packets_in}
 use Rattle.pldm_requester.specs.Slots.{held_of}
 use Rattle.mctpctl_ask.proofs.turn.hear.Given as goal
@@ -13,6 +13,8 @@ invariant-loop-byte l = record {
   held : received (held_of l.initial.requester) l.now (packets_in l.initial.frames l.initial.rest)
       ≡ received (held_of l.requester) l.now (packets_in l.frames l.rest);
   seen : all_seen l.initial.wanted (packets_in l.initial.frames l.initial.rest) ≡ all_seen l.wanted (packets_in l.frames l.rest);
+  wants : WantsMemory (held_of l.requester) l.now (packets_in l.frames l.rest)
+      → WantsMemory (held_of l.initial.requester) l.now (packets_in l.initial.frames l.initial.rest);
   last : (held_of l.requester).last ≤ l.now;
 }
 

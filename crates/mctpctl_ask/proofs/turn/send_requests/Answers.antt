@@ -23,4 +23,5 @@ loop-number-preserved g c =
           subst (Appends start end) (sym (request_further held numbers at within))
           (Appends-trans start before end (frames_of held (take at numbers)) (memo_frames (held.remembered (get_or numbers at 0))) i.wrote more);
       works = search rules;
+      flushed = search rules;
     }

@@ -1,5 +1,5 @@
 -- The frames so far are those of the requests so far.
-use Rattle.std.proofs.Common.{◌≡◌, false, take}
+use Rattle.std.proofs.Common.{◌≡◌, false, true, take}
 use Rattle.std.specs.Io.KnownBytes.{Appends}
 use Rattle.mctpctl_ask.specs.Turns.{frames_of}
 use Rattle.pldm_requester.specs.Slots.{held_of}
@@ -10,4 +10,5 @@ invariant-loop-number g l = record {
   wrote : Appends (g.W.Write.contents l.initial.writer.inner) (g.W.Write.contents l.writer.inner)
       (frames_of (held_of l.requester) (take l.number-index l.numbers));
   works : l.writer.failed ≡ false;
+  flushed : l.initial.writer.flushed ≡ true → l.writer.flushed ≡ true;
 }

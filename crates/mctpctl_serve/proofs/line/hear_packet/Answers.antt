@@ -34,7 +34,7 @@ returns-in_ok-answer_drop-in-Dropped-clause-heard g c =
     } in
     packet_heard g.P.Platform.performed device g.L.Watch.sees (shown g.C.Ticks.to_come g.W.Write.contents c.args.line.now c.args.writer.now) c.args.packet.now
     (shown g.C.Ticks.to_come g.W.Write.contents after c.answer_drop.new.writer) c.in-Ok.reading now c.saw.new.self (outcome.Dropped c.in-Dropped.reason)
-    same c.in-Ok.ensures gives
+    same c.in-Ok.ensures.reading gives
     (ap (λ h. answerers h control) moved ∙ ap (in_step received now) c.in_ok-answer_drop-in-Dropped.ensures.control)
     c.in_ok-answer_drop-in-Dropped.ensures.bytes c.saw.ensures c.in_ok-answer_drop-in-Dropped.ensures.seen
     (subst (λ p. g.P.Platform.performed c.args.line.now.responder.platform (received_commands held now c.args.packet.now) p) (sym c.keep_in_step.ensures.platform) c.in-Ok-receive_message.ensures.received.performed)
@@ -57,6 +57,6 @@ returns-in_ok-send-in-Answered-clause-heard g c =
     } in
     packet_heard g.P.Platform.performed device g.L.Watch.sees (shown g.C.Ticks.to_come g.W.Write.contents c.args.line.now c.args.writer.now) c.args.packet.now
     (shown g.C.Ticks.to_come g.W.Write.contents after c.send.new.writer) c.in-Ok.reading now c.saw.new.self answer
-    same c.in-Ok.ensures gives
+    same c.in-Ok.ensures.reading gives
     (ap (λ h. answerers h c.args.line.now.control) (same_held {held = received_held device held now c.args.packet.now} c.in-Ok-receive_message.ensures.received.held)) wrote c.saw.ensures (c.saw-in-Answered.new.self, sent, refl)
     c.in-Ok-receive_message.ensures.received.performed c.in-Ok-receive_message.ensures.received.bounds

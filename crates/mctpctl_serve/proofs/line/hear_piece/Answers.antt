@@ -14,6 +14,7 @@ loop-first-init g c = record {
       g.met.P.Platform.none_performed
       (shown g.C.Ticks.to_come g.W.Write.contents c.args.line.now c.args.writer.now);
   works = c.requires;
+  flushed = λ was. was;
 }
 
 pub loop-first-preserved : goal.loop-first-preserved
@@ -32,6 +33,7 @@ loop-first-preserved g c =
           (shown g.C.Ticks.to_come g.W.Write.contents c.hear_byte.new.line c.hear_byte.new.writer)
           i.heard c.in-Ok.ensures.heard;
       works = search rules;
+      flushed = search rules;
     }
 
 pub returns-in-Err-clause-stopped : goal.returns-in-Err-clause-stopped

@@ -1,5 +1,5 @@
 -- The bytes before `rest` have been heard.
-use Rattle.std.proofs.Common.{◌≡◌, ℕ, List, ◌++◌, length, false}
+use Rattle.std.proofs.Common.{◌≡◌, ℕ, List, ◌++◌, length, false, true}
 use Rattle.mctpctl_serve.specs.Heard.{Hears, shown}
 use Rattle.pldm_responder.specs.Performing.{rules_of}
 use Rattle.mctpctl_serve.proofs.line.hear_piece.Given as goal
@@ -12,6 +12,7 @@ invariant-loop-first g l = record {
       (shown g.C.Ticks.to_come g.W.Write.contents l.initial.line l.initial.writer) taken
       (shown g.C.Ticks.to_come g.W.Write.contents l.line l.writer);
   works : l.writer.failed ≡ false;
+  flushed : l.initial.writer.flushed ≡ true → l.writer.flushed ≡ true;
 }
 
 abbrev pub decreases-loop-first : goal.decreases-loop-first

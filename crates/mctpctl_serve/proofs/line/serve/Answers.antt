@@ -16,6 +16,7 @@ loop-init g c = record {
       (shown g.C.Ticks.to_come g.W.Write.contents c.args.line.now c.args.writer.now);
   reads = c.requires.works.0;
   writes = c.requires.works.1;
+  flushed = λ was. was;
 }
 
 pub loop-preserved : goal.loop-preserved
@@ -34,6 +35,7 @@ loop-preserved g c =
           i.heard c.in-Ok-hear_piece.ensures.heard;
       reads = search rules;
       writes = search rules;
+      flushed = search rules;
     }
 
 pub returns-in-Err-clause-stopped : goal.returns-in-Err-clause-stopped

@@ -1,5 +1,5 @@
 -- What was read has been heard.
-use Rattle.std.proofs.Common.{◌≡◌, List, ℕ, false}
+use Rattle.std.proofs.Common.{◌≡◌, List, ℕ, false, true}
 use Rattle.std.specs.Io.KnownBytes.{Consumes}
 use Rattle.mctpctl_serve.specs.Heard.{Hears, shown}
 use Rattle.pldm_responder.specs.Performing.{rules_of}
@@ -14,4 +14,5 @@ invariant-loop g l = record {
       (shown g.C.Ticks.to_come g.W.Write.contents l.line l.writer);
   reads : l.reader.failed ≡ false;
   writes : l.writer.failed ≡ false;
+  flushed : l.initial.writer.flushed ≡ true → l.writer.flushed ≡ true;
 }
