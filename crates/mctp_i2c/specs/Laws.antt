@@ -48,7 +48,7 @@ I3cBurstsAreSeen =
     → IsDynamicAddress address → IsDynamicAddress other → HasFrame packet → AreBytes packet
     → IsBurst difference
     → AreChanged difference (i3c.address_byte address direction ∷ i3c.frame address direction packet)
-      (i3c.address_byte other other_direction ∷ changed)
+    (i3c.address_byte other other_direction ∷ changed)
     → IsErr (i3c_readings.reading other other_direction changed)
 
 -- and so is one of which two bits changed that are less than 127 apart
@@ -65,7 +65,7 @@ I3cTwoBitsAreSeen =
     → IsDynamicAddress address → IsDynamicAddress other → HasFrame packet → AreBytes packet
     → IsTwoBits difference
     → AreChanged difference (i3c.address_byte address direction ∷ i3c.frame address direction packet)
-      (i3c.address_byte other other_direction ∷ changed)
+    (i3c.address_byte other other_direction ∷ changed)
     → IsErr (i3c_readings.reading other other_direction changed)
 
 -- on I3C the PEC alone says whose a frame is: one for another transfer is refused

@@ -34,8 +34,8 @@ not_found places n unit scale digits rounded lt scale_is digits_is test is left 
     let some : 11 - places ≡ suc (11 - (places + 1)) = omega arith in
     let fails : is_enough n unit places ≡ false = sym (at_places places n unit scale digits rounded scale_is digits_is test) ∙ is in
     let past : find (is_enough n unit) (range_with_len places (11 - places))
-            ≡ find (is_enough n unit) (range_with_len (places + 1) (11 - (places + 1)))
-        = rw (some, fails) refl in
+    ≡ find (is_enough n unit) (range_with_len (places + 1) (11 - (places + 1)))
+    = rw (some, fails) refl in
     sym past ∙ left
 
 pub none_left : (places n unit : ℕ) → 11 ≤ places → IsLeft 11 places n unit → None ≡ shortest n unit

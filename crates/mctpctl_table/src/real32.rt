@@ -84,11 +84,7 @@ fn is_rounded(n: u64, unit: u64, scale: u64, digits: u64) -> bool
     requires near { 2 * (digits * unit) ≤ 2 * (n * scale) + unit }
     ensures { result ≡ is_rounded n unit scale digits }
 {
-    let lower = if n == 0x80_0000 {
-        4 * n - 1
-    } else {
-        4 * n - 2
-    };
+    let lower = if n == 0x80_0000 { 4 * n - 1 } else { 4 * n - 2 };
     let decimal = 4 * (digits * unit);
     lower * scale < decimal && decimal < (4 * n + 2) * scale
 }

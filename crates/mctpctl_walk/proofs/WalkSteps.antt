@@ -202,7 +202,7 @@ record_bounded w pdr next b r small asked =
       one_each =
           rw (length-append w.records (pdr ∷ []), length-append w.found (listed (found_of (length w.records) pdr)))
           (omega (arith, b.one_each, one_found (found_of (length w.records) pdr)));
-            distinct = all_pairs_push (λ (a : List ℕ) (later : List ℕ). handle_of a ≢ handle_of later) w.records pdr b.distinct (new_handle w.records w.fetch pdr r.other asked);
+      distinct = all_pairs_push (λ (a : List ℕ) (later : List ℕ). handle_of a ≢ handle_of later) w.records pdr b.distinct (new_handle w.records w.fetch pdr r.other asked);
     }
 
 not_none : (next : ℕ) → (next == NO_RECORD) ≡ false → next ≢ FIRST_RECORD
