@@ -1,7 +1,7 @@
 -- Every constant of the source, a second time: the board's own numbers, and the standard's.
-use Rattle.std.proofs.Common.{◌≡◌, pos, refl}
-use Rattle.fan_board.specs.declared.TheConstants.{OWN, KEEP, BOUNDS, COMMANDS}
-use Rattle.fan_board.specs.declared.board.TheConstants.{TID, THERMOMETER, COLDEST, HOTTEST, FIRST_DEGREES, FULL_SPEED, FANS, GOOD_TRANSFERS, SECOND, SENSOR_ENABLED, EFFECTER_ENABLED, NORMAL, INVALID_ID}
+use Rattle.std.proofs.Common.{◌≡◌, false, pos, refl}
+use Rattle.fan_board.specs.declared.TheConstants.{OWN, KEEP, BOUNDS, COMMANDS, OEM}
+use Rattle.fan_board.specs.declared.board.TheConstants.{TID, THERMOMETER, COLDEST, HOTTEST, FIRST_DEGREES, FULL_SPEED, FANS, GET_TRANSFERS, GOOD_TRANSFERS, SECOND, SENSOR_ENABLED, EFFECTER_ENABLED, NORMAL, INVALID_ID}
 
 endpoint_id : OWN ≡ 10
 endpoint_id = refl
@@ -17,6 +17,16 @@ open_messages = refl
 
 commands_at_a_time : COMMANDS ≡ 1
 commands_at_a_time = refl
+
+-- type 63 alone, OEM, by its bit
+types_handed_on : OEM.pldm_types ≡ 9223372036854775808
+types_handed_on = refl
+
+no_unknown_commands_handed_on : OEM.unknown_commands ≡ false
+no_unknown_commands_handed_on = refl
+
+command_for_transfers : GET_TRANSFERS ≡ 1
+command_for_transfers = refl
 
 terminus_id : TID ≡ 5
 terminus_id = refl

@@ -2,3 +2,4 @@ pub mod BoardCommands
 pub mod Boards
 pub mod PacketLines
 pub mod Served
+pub mod ServedLines

@@ -1,2 +1,5 @@
 pub mod FirstRecords
+pub mod LineFaults
+pub mod Numbers
+pub mod StepsAsked
 pub mod WalkedOn

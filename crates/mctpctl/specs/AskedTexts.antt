@@ -1,15 +1,21 @@
 -- What `ask` prints of an answer, and its exit status.
 use Rattle.std.specs.Io.KnownBytes.{Appends}
-use Rattle.std.specs.Prelude.{◌≡◌, ℕ, Bool, true, false, ◌==◌, List, [], ◌∷◌, ◌++◌, Option, None, Some}
-use Rattle.std.specs.Prelude.{Result, Ok, Err, if◌then◌else◌}
+use Rattle.std.specs.Prelude.{◌≡◌, ◌⊎◌, ℕ, Bool, true, false, ◌==◌, List, [], ◌∷◌, ◌++◌, Option, None, Some}
+use Rattle.std.specs.List.{FoldsTo}
+use Rattle.std.specs.Prelude.{Result, Ok, Err, max, if◌then◌else◌}
 use Rattle.mctpctl_ask.specs.Asked.{Asks, Shown}
 use Rattle.mctpctl_ask.specs.Ends.{answer_of}
+use Rattle.mctpctl_ask.specs.declared.fault.AskFault.{AskFault}
+use Rattle.mctpctl_ask.specs.declared.fault.AskFault.TheVariants as faults
 use Rattle.mctpctl_ask.specs.declared.line.Ended.{Ended}
 use Rattle.mctpctl_decode.specs.DecodedLines.{decoded_line}
 use Rattle.mctpctl_texts.specs.ShownLines.{data_text}
 use Rattle.pldm_wire.specs.Responses.{Response, response_of}
 use Rattle.pldm_wire.specs.declared.assigned.TheConstants.{SUCCESS}
 use Rattle.pldm_wire.specs.declared.command.Command.{Command}
+use Rattle.schedule_text.specs.declared.step.Action.{Action}
+use Rattle.schedule_text.specs.declared.step.Action.TheVariants.{Open}
+use Rattle.schedule_text.specs.declared.step.Step.{Step}
 use Rattle.mctp_packet.specs.declared.reason.Reason.{Reason}
 use Rattle.mctpctl.specs.declared.talk.TheConstants.{DONE, FAILED, REFUSED}
 
@@ -35,9 +41,39 @@ abbrev pub Prints : Bool → Option (List ℕ) → Option (List ℕ) → Option 
 Prints hex (Some message) out out1 = Appends out out1 (message_text hex message)
 Prints hex None out out1 = out1 ≡ out
 
+-- a fault that printing may have: a writer failed, or there was no memory for the text
+abbrev pub IsOfPrinting : AskFault → Type 0
+IsOfPrinting fault = (fault ≡ faults.Write) ⊎ (fault ≡ faults.Memory)
+
 -- a request for the command was opened and has ended, and the answer to that very request was printed
 pub record Reports (hex : Bool) (command : Command) (number : ℕ) (s s1 : Shown) (out out1 : Option (List ℕ))
     : Type 0 where
   pub ended : Ended
   pub asks : Asks command number ended s s1
   pub prints : Prints hex (answer_of s1.asking.held number) out out1
+
+-- the command of a step was asked once, and its exit status is that of its own answer; no other step does anything
+abbrev pub AsksAction :
+    Bool → Action → ℕ → Shown → Shown → Option (List ℕ) → Option (List ℕ) → Type 0
+AsksAction hex (Open requester command) status s s1 out out1 =
+    (number : ℕ) × Reports hex command number s s1 out out1
+    × (status ≡ status_of_answer (answer_of s1.asking.held number))
+AsksAction hex _ status s s1 out out1 = (status ≡ DONE) × (s1 ≡ s) × (out1 ≡ out)
+
+-- a line on which commands are asked, what was printed, and the greatest exit status so far
+pub record AskedSo : Type 0 where
+  pub shown : Shown
+  pub out : Option (List ℕ)
+  pub status : ℕ
+
+abbrev pub asked_so : Shown → Option (List ℕ) → ℕ → AskedSo
+asked_so shown out status = record { shown = shown; out = out; status = status }
+
+pub record AsksStep (hex : Bool) (a : AskedSo) (step : Step) (b : AskedSo) : Type 0 where
+  pub one : ℕ
+  pub asks : AsksAction hex step.action one a.shown b.shown a.out b.out
+  pub greatest : b.status ≡ max a.status one
+
+-- the commands of these steps were asked one after another, each once
+abbrev pub AsksEach : Bool → List Step → AskedSo → AskedSo → Type 0
+AsksEach hex steps a b = FoldsTo (AsksStep hex) a steps b

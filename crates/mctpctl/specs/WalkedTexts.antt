@@ -1,14 +1,16 @@
 -- What `walk` asks and prints.
 use Rattle.std.specs.Io.KnownBytes.{Appends}
-use Rattle.std.specs.Prelude.{◌≡◌, ◌==◌, ℕ, zero, suc, Bool, false, List, [], ◌∷◌, ◌++◌, length, slice_get, unwrap_or, Option, None, Some}
+use Rattle.std.specs.Prelude.{◌≡◌, ◌⊎◌, ◌==◌, ℕ, zero, suc, Bool, false, List, [], ◌∷◌, ◌++◌, length, slice_get, unwrap_or, Option, None, Some}
 use Rattle.std.specs.Prelude.{if◌then◌else◌}
 use Rattle.mctp_control.specs.Messages.{Response, response_of}
 use Rattle.mctp_control.specs.Queries.{ControlQuery}
 use Rattle.mctp_control.specs.declared.assigned.TheConstants.{SUCCESS}
 use Rattle.mctp_control.specs.declared.command.Command.{Command as ControlCommand}
-use Rattle.mctpctl_ask.specs.Asked.{Shown}
+use Rattle.mctpctl_ask.specs.Asked.{AskStops, Shown}
 use Rattle.mctpctl_ask.specs.Ends.{answer_of}
 use Rattle.mctpctl_ask.specs.Queries.{AsksQuery}
+use Rattle.mctpctl_ask.specs.declared.fault.AskFault.{AskFault}
+use Rattle.mctpctl_ask.specs.declared.fault.AskFault.TheVariants.{TooMany}
 use Rattle.mctpctl_decode.specs.RecordTexts.{record_lines}
 use Rattle.mctpctl_table.specs.Rows.{rows_of}
 use Rattle.mctpctl_table.specs.Tables.{Cells, table_text}
@@ -107,6 +109,19 @@ pub record WalksThrough (a b : Standing) : Type 0 where
   pub before : List Standing
   pub walked : Walked a before b
   pub ends : next_command b.walking ≡ None
+
+-- the line stopped at the next command
+pub record StopsNext (fault : AskFault) (a b : Standing) : Type 0 where
+  pub command : Command
+  pub next : next_command a.walking ≡ Some command
+  pub stops : AskStops command fault a.shown b.shown
+
+-- command after command was asked; then the line stopped at the next one, or there were too many
+pub record StopsWalking (fault : AskFault) (a b : Standing) : Type 0 where
+  pub before : List Standing
+  pub last : Standing
+  pub walked : Walked a before last
+  pub reason : StopsNext fault last b ⊎ ((fault ≡ TooMany) × (length before ≡ 18446744073709551615))
 
 -- ---- the table
 -- the record by which something was found

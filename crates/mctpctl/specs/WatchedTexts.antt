@@ -1,8 +1,9 @@
 -- What `watch` asks and prints.
 use Rattle.std.specs.Fmt.{decimal}
 use Rattle.std.specs.Prelude.{◌≡◌, ℕ, zero, suc, List, [], ◌∷◌, ◌++◌, codes, length, slice_get, Option, Some}
-use Rattle.mctpctl_ask.specs.Asked.{Asks, Shown}
+use Rattle.mctpctl_ask.specs.Asked.{AskStops, Asks, Shown}
 use Rattle.mctpctl_ask.specs.Ends.{answer_of}
+use Rattle.mctpctl_ask.specs.declared.fault.AskFault.{AskFault}
 use Rattle.mctpctl_ask.specs.declared.line.Ended.{Ended}
 use Rattle.mctpctl_table.specs.Rows.{rows_of}
 use Rattle.mctpctl_table.specs.Marks.{marked_text}
@@ -33,6 +34,20 @@ ReadsFirst w (suc place) s s1 rows =
 
 abbrev pub ReadsAll : Walking → Shown → Shown → List Cells → Type 0
 ReadsAll w s s1 rows = ReadsFirst w (length w.found) s s1 rows
+
+-- the line stopped at the question of what was found at a place
+pub record StopsOne (w : Walking) (place : ℕ) (fault : AskFault) (s s1 : Shown) : Type 0 where
+  pub found : Found
+  pub is_found : slice_get w.found place ≡ Some found
+  pub stops : AskStops (question found.subject) fault s s1
+
+-- what was found at the first places was read; then the line stopped at the next
+pub record StopsReading (w : Walking) (fault : AskFault) (s s1 : Shown) : Type 0 where
+  pub place : ℕ
+  pub last : Shown
+  pub rows : List Cells
+  pub read : ReadsFirst w place s last rows
+  pub stops : StopsOne w place fault last s1
 
 -- the moment, the rows with those that have changed marked, and a blank line
 abbrev pub round_text : ℕ → List Cells → List Cells → List ℕ

@@ -1,10 +1,12 @@
 //! `ask`: commands go out to a device on a serial line, and their answers are printed.
 
 ghost use Rattle.std.specs.Io.KnownBytes.{Appends};
-ghost use Rattle.std.specs.Prelude.{◌≡◌, ◌++◌, IfOk, OnOk, option_map};
-ghost use Rattle.mctpctl.specs.AskedTexts.{Reports, message_text, status_of_answer, status_of_message};
+ghost use Rattle.std.specs.Prelude.{◌≡◌, ◌≢◌, ◌⊎◌, ◌++◌, IfOk, IfErr, OnOk, option_map};
+ghost use Rattle.mctpctl.specs.AskedTexts.{AsksAction, AsksEach, IsOfPrinting, Reports, asked_so, message_text, status_of_answer, status_of_message};
 ghost use Rattle.mctpctl.specs.Conversations.{IsGoingOn, printed_in, shown_in};
+ghost use Rattle.mctpctl_ask.specs.Asked.{AskStops};
 ghost use Rattle.mctpctl_input.specs.Ports.{inner_of};
+ghost use Rattle.schedule_text.specs.StepColumns.{borrowed_action};
 
 use crate::commands::{CommandsFault, read_commands};
 use crate::conversation::Conversation;
@@ -76,6 +78,12 @@ pub fn ask_each<C: Ticks, R: Read, W: Write, O: Write>(
     conversation: &mut Conversation<C, R, W, O>,
 ) -> Result<u8, AskFault>
     requires going { IsGoingOn conversation.old }
+    ensures asked { IfOk result (λ status. AsksEach question.now.hex commands.now.steps
+        (asked_so (shown_in C.to_come R.remaining W.contents conversation.old)
+        (printed_in O.contents conversation.old) DONE)
+        (asked_so (shown_in C.to_come R.remaining W.contents conversation.new)
+        (printed_in O.contents conversation.new) status)) }
+    ensures going { OnOk result (IsGoingOn conversation.new) }
 {
     let mut status = DONE;
     for step in commands.steps().iter() {
@@ -95,13 +103,20 @@ fn ask_step<C: Ticks, R: Read, W: Write, O: Write>(
     conversation: &mut Conversation<C, R, W, O>,
 ) -> Result<u8, AskFault>
     requires going { IsGoingOn conversation.old }
+    ensures asked { IfOk result (λ status. AsksAction question.now.hex (borrowed_action step.now.action) status
+        (shown_in C.to_come R.remaining W.contents conversation.old)
+        (shown_in C.to_come R.remaining W.contents conversation.new)
+        (printed_in O.contents conversation.old) (printed_in O.contents conversation.new)) }
     ensures going { OnOk result (IsGoingOn conversation.new) }
 {
     let ActionRef::Open { command, .. } = step.action else {
         return Ok(DONE); // a schedule of commands has no other step
     };
     let hex = question.hex;
-    let number = ask_command(rt.alloc(), hex, command, conversation)?;
+    let number = match ask_command(rt.alloc(), hex, command, conversation) {
+        Ok(number) => number,
+        Err(fault) => return Err(fault),
+    };
     let status = status_of_answer(conversation.line.answer(number));
     if status == FAILED {
         say_no_answer(rt, question, step);
@@ -131,6 +146,9 @@ pub fn ask_command<C: Ticks, R: Read, W: Write, O: Write>(
         (shown_in C.to_come R.remaining W.contents conversation.old)
         (shown_in C.to_come R.remaining W.contents conversation.new)
         (printed_in O.contents conversation.old) (printed_in O.contents conversation.new)) }
+    ensures stopped { IfErr result (λ fault. IsOfPrinting fault ⊎ AskStops command.now fault
+        (shown_in C.to_come R.remaining W.contents conversation.old)
+        (shown_in C.to_come R.remaining W.contents conversation.new)) }
     ensures going { OnOk result (IsGoingOn conversation.new) }
 {
     let asked = match ask(
@@ -156,8 +174,9 @@ pub fn print_message<O: Write>(
     message: &[u8],
     out: &mut Port<O>,
 ) -> Result<(), AskFault>
-    ensures { OnOk result (Appends (O.contents (inner_of out.old)) (O.contents (inner_of out.new))
+    ensures text { OnOk result (Appends (O.contents (inner_of out.old)) (O.contents (inner_of out.new))
         (message_text hex message.now)) }
+    ensures fault { IfErr result IsOfPrinting }
 {
     let mut text = Vec::new(alloc);
     if push_message(hex, message, &mut text).is_err() {
@@ -168,7 +187,8 @@ pub fn print_message<O: Write>(
 
 /// Prints a text.
 pub fn print_text<O: Write>(text: &[u8], out: &mut Port<O>) -> Result<(), AskFault>
-    ensures { OnOk result (Appends (O.contents (inner_of out.old)) (O.contents (inner_of out.new)) text.now) }
+    ensures text { OnOk result (Appends (O.contents (inner_of out.old)) (O.contents (inner_of out.new)) text.now) }
+    ensures fault { IfErr result (λ fault. fault ≡ AskFault.Write) }
 {
     if out.write_all(text).is_err() || out.flush().is_err() {
         return Err(AskFault::Write);

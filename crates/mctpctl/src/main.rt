@@ -22,6 +22,7 @@ ghost use Rattle.mctpctl_input.specs.Ports.{has_failed, BothWork};
 use crate::asking::ask_device;
 use crate::faults::print_fault;
 use crate::serial_line::serve_device;
+use crate::talk::{DONE, FAILED, USAGE};
 use crate::walking::run_walk;
 use crate::watching::run_watch;
 use mctpctl_command_line::{Choice, ChooseFault, Task, TextTask, choose};
@@ -43,13 +44,13 @@ fn main(rt: HostRuntime) -> ExitCode {
         Ok(status) => status,
         Err(ChooseFault::Help(text)) => {
             let _ = print!(rt; "{text}");
-            0
+            DONE
         }
         Err(ChooseFault::Refused(text)) => {
             let _ = eprint!(rt; "{text}");
-            2
+            USAGE
         }
-        Err(ChooseFault::Memory(_)) => 3,
+        Err(ChooseFault::Memory(_)) => FAILED,
     };
     ExitCode::from(status)
 }
@@ -141,7 +142,7 @@ fn show<R: Read, W: Write>(
 /// The exit status of a run, whose fault is printed on standard error.
 fn status(rt: &HostRuntime, ended: &Result<(), EngineFault>) -> u8 {
     match ended {
-        Ok(()) => 0,
+        Ok(()) => DONE,
         Err(fault) => print_fault(rt, fault),
     }
 }

@@ -1,21 +1,26 @@
 //! `serve`: the described device on a serial line, which is standard input and output.
 
+ghost use Rattle.std.specs.Prelude.{◌≡◌};
+ghost use Rattle.mctp_serial.specs.Readings.{idle};
+ghost use Rattle.mctpctl.specs.ControlResponders.{eid_at_first, responder_of};
+ghost use Rattle.pldm_responder.specs.Ends.{eid_or_null, unreached};
+ghost use Rattle.pldm_responder.specs.ResponderStates.{IsHeld, held_at_first};
+ghost use Rattle.pldm_responder.specs.ResponderViews.{held_of};
+
 use crate::control_responder::{control_responder, eid_at_first};
 use crate::device_file::{device_text, read_served};
 use crate::faults::{engine_fault, print_fault};
+use crate::talk::{DONE, FAILED};
 use mctp_serial::FrameReader;
 use mctpctl_command_line::Service;
 use mctpctl_input::{EngineFault, Port};
 use mctpctl_serve::{Log, ServedLine, SystemTicks, serve};
-use pldm_device::{ControlTable, Description};
+use pldm_device::{ControlTable, Description, SimDevice};
 use pldm_responder::{Bounds, Keeping, Responder};
-use std::alloc::AllocError;
+use std::alloc::{AllocError, Global};
 use std::fs::File;
 use std::io::{ErrorKind, Stderr};
 use std::{fs, io};
-
-/// The exit status where a file or the clock fails: that of a read fault.
-const FAILED: u8 = 3;
 
 /// Why a device was not served until its line ended.
 #[derive(Drop)]
@@ -35,7 +40,7 @@ enum ServiceFault {
 /// Serves the device until its line ends, and returns the exit status. A fault is printed on standard error.
 pub fn serve_device(rt: &HostRuntime, service: &Service<'_>) -> u8 {
     match run(rt, service) {
-        Ok(()) => 0,
+        Ok(()) => DONE,
         Err(ServiceFault::Device(error)) => file_failed(rt, service.device, &error),
         Err(ServiceFault::Capture(error)) => {
             let name = service.log.unwrap_or(""); // there is one, where a capture was to be made
@@ -63,26 +68,11 @@ fn file_failed(rt: &HostRuntime, name: &str, error: &io::Error) -> u8 {
 fn run(rt: &HostRuntime, service: &Service<'_>) -> Result<(), ServiceFault> {
     let alloc = rt.alloc();
     let (description, table) = described(rt, service.device)?;
-    let Description {
-        eid,
-        keep,
-        window,
-        busy,
-        device,
-    } = description;
-    let keeping = Keeping { keep, window, busy };
-    let own = eid_at_first(eid, &table);
     let watch = watcher(rt, service)?;
     let Ok(ticks) = SystemTicks::new(rt) else {
         return Err(ServiceFault::Clock);
     };
-    let mut line = ServedLine {
-        frames: FrameReader::new(),
-        responder: Responder::bounded(alloc, own, keeping, Bounds::UNREACHED, device),
-        control: control_responder(eid, keep, &table),
-        ticks,
-        watch,
-    };
+    let mut line = served_line(alloc, description, &table, ticks, watch);
     let mut reader = Port::new(rt.stdin());
     let mut writer = Port::new(rt.stdout());
     match serve(&mut line, &mut reader, &mut writer) {
@@ -92,6 +82,41 @@ fn run(rt: &HostRuntime, service: &Service<'_>) -> Result<(), ServiceFault> {
             Some(fault) => ServiceFault::Engine(fault),
             None => ServiceFault::Clock,
         }),
+    }
+}
+
+/// The line of a described device, which answers as its description says.
+fn served_line<C: Drop, L: Drop>(
+    alloc: Global,
+    description: Description,
+    table: &ControlTable,
+    ticks: C,
+    watch: L,
+) -> ServedLine<SimDevice, C, L>
+    ensures held { IsHeld (held_of result.responder) (held_at_first
+        (eid_or_null (eid_at_first description.eid table.now.assigned))
+        description.busy description.window description.keep description.device) }
+    ensures bounds { result.responder.end.bounds ≡ unreached }
+    ensures control { result.control ≡ responder_of description.eid description.keep table.now }
+    ensures frames { result.frames ≡ idle }
+    ensures ticks { result.ticks ≡ ticks }
+    ensures watch { result.watch ≡ watch }
+{
+    let Description {
+        eid,
+        keep,
+        window,
+        busy,
+        device,
+    } = description;
+    let own = eid_at_first(eid, table);
+    let keeping = Keeping { keep, window, busy };
+    ServedLine {
+        frames: FrameReader::new(),
+        responder: Responder::bounded(alloc, own, keeping, Bounds::UNREACHED, device),
+        control: control_responder(eid, keep, table),
+        ticks,
+        watch,
     }
 }
 

@@ -1,11 +1,13 @@
 //! The file that keeps when a device was asked last, so that the next `ask` waits no longer than it has to.
 
-ghost use Rattle.std.specs.Prelude.{◌≡◌, ◌<◌, ◌^◌, IfOk, IfSome};
-ghost use Rattle.mctpctl.specs.States.{last_in, settling_in};
+ghost use Rattle.std.specs.Prelude.{◌≡◌, ◌<◌, ◌^◌, ◌/◌, IfOk, IfSome, None, option_map, string_bytes};
+ghost use Rattle.std.specs.Time.{system_time_nanos};
+ghost use Rattle.mctpctl.specs.States.{last_in, settling_in, state_text};
 
 use crate::device_file::device_text;
 use line_words::read_number;
-use mctp_packet::Keep;
+use mctp_packet::{Keep, Memory};
+use std::alloc::Global;
 use std::fs;
 use std::io::{self, ErrorKind, Write};
 use std::time::{SystemTime, UNIX_EPOCH};
@@ -33,13 +35,22 @@ impl From<io::Error> for StateFault {
     }
 }
 
-/// For how many milliseconds answers to earlier requests may still come, by the file of this name, or where there is
-/// none: twice the keeping time. Until [`end_state`] the file is empty, so a run that is broken off leaves no moment.
-pub fn begin_state(rt: &HostRuntime, file: Option<&str>, keep: Keep) -> Result<u64, StateFault>
-    ensures range { IfOk result (λ span. span < 2 ^ 60) }
+/// What is known of earlier requests.
+#[derive(Clone, Copy, Debug)]
+pub struct Earlier {
+    /// The moment up to which they were opened, where it is known.
+    pub last: Option<u64>,
+    /// The moment now.
+    pub now: u64,
+}
+
+/// What the file of this name says of earlier requests, which is nothing where there is none. Until [`end_state`] the
+/// file is empty, so a run that is broken off leaves no moment.
+pub fn begin_state(rt: &HostRuntime, file: Option<&str>) -> Result<Earlier, StateFault>
+    ensures nothing { option_map (λ name. name.now) file.entry ≡ None → IfOk result (λ earlier. earlier.last ≡ None) }
 {
     let Some(name) = file else {
-        return Ok(settling_time(keep, None, 0));
+        return Ok(Earlier { last: None, now: 0 });
     };
     let last = match device_text(rt, name) {
         Ok(text) => match last_moment(&text) {
@@ -50,7 +61,10 @@ pub fn begin_state(rt: &HostRuntime, file: Option<&str>, keep: Keep) -> Result<u
         Err(error) => return Err(StateFault::File(error)),
     };
     write(rt, name, b"")?;
-    Ok(settling_time(keep, last, now(rt)?))
+    Ok(Earlier {
+        last,
+        now: now(rt)?,
+    })
 }
 
 /// Keeps in the file of this name, where there is one, that the last request was opened before now, and returns the
@@ -60,11 +74,18 @@ pub fn end_state(rt: &HostRuntime, file: Option<&str>, status: u8) -> Result<u8,
         return Ok(status);
     };
     let moment = now(rt)?;
-    let Ok(text) = format!(in rt.alloc(); "{moment}\n") else {
+    let Ok(text) = state_text(rt.alloc(), moment) else {
         return Err(StateFault::File(ErrorKind::OutOfMemory.into()));
     };
     write(rt, name, text.as_bytes())?;
     Ok(status)
+}
+
+/// The text that keeps a moment.
+fn state_text(alloc: Global, moment: u64) -> Result<String, Memory>
+    ensures { IfOk result (λ text. string_bytes text ≡ state_text moment) }
+{
+    Ok(format!(in alloc; "{moment}\n")?)
 }
 
 /// What a file keeps: no moment where it is empty, else one with a line end, so that a moment which was cut off is
@@ -82,15 +103,15 @@ fn last_moment(text: &[u8]) -> Option<Option<u64>>
     Some(Some(read_number(digits, MAX_MOMENT)?))
 }
 
-/// For how many milliseconds from the moment `now` on answers may come to requests that were opened up to the moment
-/// `last`: twice the keeping time after it, and from now on where no moment is known, or one to come.
-fn settling_time(keep: Keep, last: Option<u64>, now: u64) -> u64
-    ensures value { result ≡ settling_in keep last now }
+/// For how many milliseconds from now on answers may come to earlier requests: twice the keeping time after the moment
+/// up to which they were opened, and from now on where no moment is known, or one to come.
+pub fn settling_time(keep: Keep, earlier: &Earlier) -> u64
+    ensures value { result ≡ settling_in keep earlier.now.last earlier.now.now }
     ensures range { result < 2 ^ 60 }
 {
     let whole = 2 * u64::from(keep.get());
-    match last {
-        Some(last) if last <= now => whole.saturating_sub(now - last),
+    match earlier.last {
+        Some(last) if last <= earlier.now => whole.saturating_sub(earlier.now - last),
         _ => whole,
     }
 }
@@ -100,9 +121,19 @@ fn now(rt: &HostRuntime) -> Result<u64, StateFault> {
     let Ok(moment) = SystemTime::now(rt) else {
         return Err(StateFault::Clock);
     };
+    match milliseconds_since_1970(moment) {
+        Some(milliseconds) => Ok(milliseconds),
+        None => Err(StateFault::Clock),
+    }
+}
+
+/// The whole milliseconds from 1970 to a moment; `None` where it is before 1970, or they are too many.
+fn milliseconds_since_1970(moment: SystemTime) -> Option<u64>
+    ensures { IfSome result (λ milliseconds. milliseconds ≡ system_time_nanos moment / 1_000_000) }
+{
     match moment.duration_since(UNIX_EPOCH) {
-        Ok(since) => u64::try_from(since.as_millis()).map_err(|_| StateFault::Clock),
-        Err(_) => Err(StateFault::Clock),
+        Ok(since) => u64::try_from(since.as_millis()).ok(),
+        Err(_) => None,
     }
 }
 

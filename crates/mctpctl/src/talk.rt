@@ -1,17 +1,21 @@
 //! A conversation with a device on a serial line: the line is opened, and the answers to earlier requests pass first.
 
-ghost use Rattle.std.specs.Prelude.{◌<◌, ◌^◌};
+ghost use Rattle.std.specs.Prelude.{IfOk, OnOk};
+ghost use Rattle.mctpctl.specs.States.{settling_in};
+ghost use Rattle.mctpctl_ask.specs.Asked.{Listens, begun_as, shown};
+ghost use Rattle.mctpctl_input.specs.Ports.{BothWork};
 
 use crate::asking::ask_each;
 use crate::conversation::Conversation;
 use crate::settings::{Periods, Settings, settings_of};
-use crate::state::{StateFault, begin_state, end_state};
+use crate::state::{Earlier, StateFault, begin_state, end_state, settling_time};
 use crate::walking::walk_device;
 use crate::watching::watch_device;
-use mctpctl_ask::{AskFault, BeginFault, SystemTicks, begin_after};
+use mctpctl_ask::{AskFault, AskingLine, BeginFault, SystemTicks, Ticks, begin_after};
 use mctpctl_command_line::{Link, Question, TRY_HELP, WalkOptions, WatchOptions};
 use mctpctl_input::Port;
 use schedule_text::Schedule;
+use std::alloc::Global;
 use std::fs::{File, OpenOptions};
 use std::io::{Read, Write};
 use std::{fs, io};
@@ -43,8 +47,8 @@ pub enum Errand<'q> {
 #[derive(Clone, Copy)]
 struct Talk<'q> {
     settings: Settings,
-    /// For how many milliseconds answers to earlier requests may still come.
-    span: u64,
+    /// What is known of earlier requests, whose answers may still come.
+    earlier: Earlier,
     errand: Errand<'q>,
 }
 
@@ -75,10 +79,10 @@ fn do_with_state(
     settings: &Settings,
     errand: Errand<'_>,
 ) -> Result<u8, StateFault> {
-    let span = begin_state(rt, link.state, settings.timing.keep)?;
+    let earlier = begin_state(rt, link.state)?;
     let talk = Talk {
         settings: *settings,
-        span,
+        earlier,
         errand,
     };
     let status = talk_on_line(rt, link, &talk);
@@ -86,9 +90,7 @@ fn do_with_state(
 }
 
 /// Does an errand over the line that is named, and returns the exit status.
-fn talk_on_line(rt: &HostRuntime, link: &Link<'_>, talk: &Talk<'_>) -> u8
-    requires { talk.now.span < 2 ^ 60 }
-{
+fn talk_on_line(rt: &HostRuntime, link: &Link<'_>, talk: &Talk<'_>) -> u8 {
     let Some(path) = link.line else {
         return talk_over(rt, talk, rt.stdin(), rt.stdout(), rt.stderr());
     };
@@ -115,25 +117,16 @@ fn talk_over<R: Read + Drop, W: Write + Drop, O: Write + Drop>(
     reader: R,
     writer: W,
     out: O,
-) -> u8
-    requires { talk.now.span < 2 ^ 60 }
-{
+) -> u8 {
     let Ok(ticks) = SystemTicks::new(rt) else {
         return line_failed(rt, AskFault::Clock);
     };
-    let Settings {
-        own,
-        device,
-        timing,
-    } = talk.settings;
     let mut reader = Port::new(reader);
     let mut writer = Port::new(writer);
-    let line = match begin_after(
+    let line = match begin_line(
         rt.alloc(),
-        own,
-        device,
-        timing,
-        talk.span,
+        &talk.settings,
+        &talk.earlier,
         ticks,
         &mut reader,
         &mut writer,
@@ -156,6 +149,32 @@ fn talk_over<R: Read + Drop, W: Write + Drop, O: Write + Drop>(
         Ok(status) => status,
         Err(fault) => line_failed(rt, fault),
     }
+}
+
+/// Begins a line: as long as answers to earlier requests may come, they pass.
+fn begin_line<C: Ticks + Drop, R: Read, W: Write>(
+    alloc: Global,
+    settings: &Settings,
+    earlier: &Earlier,
+    ticks: C,
+    reader: &mut Port<R>,
+    writer: &mut Port<W>,
+) -> Result<AskingLine<C>, BeginFault>
+    requires works { BothWork reader.old writer.old }
+    ensures begun { IfOk result (λ line. Listens
+        (settling_in settings.now.timing.keep earlier.now.last earlier.now.now)
+        (begun_as C.to_come R.remaining W.contents settings.now.own settings.now.device settings.now.timing ticks
+        reader.old writer.old)
+        (shown C.to_come R.remaining W.contents line reader.new writer.new)) }
+    ensures works { OnOk result (BothWork reader.new writer.new) }
+{
+    let Settings {
+        own,
+        device,
+        timing,
+    } = *settings;
+    let span = settling_time(timing.keep, earlier);
+    begin_after(alloc, own, device, timing, span, ticks, reader, writer)
 }
 
 /// Says why nothing can be asked, and returns the exit status.

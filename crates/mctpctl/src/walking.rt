@@ -1,10 +1,11 @@
 //! `walk`: a device is asked for all that it has, its answers are printed, and a table of what it measures and sets.
 
-ghost use Rattle.std.specs.Prelude.{◌≡◌, ◌<◌, ◌++◌, IfOk, OnOk, length, map};
+ghost use Rattle.std.specs.Prelude.{◌≡◌, ◌⊎◌, ◌<◌, ◌++◌, IfOk, IfErr, OnOk, length, map};
 ghost use Rattle.std.specs.Io.KnownBytes.{Appends};
 ghost use Rattle.mctp_control.specs.declared.assigned.TheConstants.{INSTANCE_IDS};
+ghost use Rattle.mctpctl.specs.AskedTexts.{IsOfPrinting};
 ghost use Rattle.mctpctl.specs.Conversations.{IsGoingOn, printed_in, shown_in};
-ghost use Rattle.mctpctl.specs.WalkedTexts.{StepsOn, ReportsQuery, WalksThrough, goes_on, query_of, record_text, status_of_query, rows_at, standing, walk_text, walked_rows};
+ghost use Rattle.mctpctl.specs.WalkedTexts.{StepsOn, StopsNext, StopsWalking, ReportsQuery, WalksThrough, goes_on, query_of, record_text, status_of_query, rows_at, standing, walk_text, walked_rows};
 ghost use Rattle.mctpctl_input.specs.Ports.{inner_of};
 
 use crate::asking::{ask_command, print_message, print_text, status_of_answer};
@@ -148,6 +149,9 @@ pub fn ask_all<C: Ticks, R: Read, W: Write, O: Write>(
     ensures walked { OnOk result (WalksThrough
         (standing C.to_come R.remaining W.contents O.contents walk.old conversation.old)
         (standing C.to_come R.remaining W.contents O.contents walk.new conversation.new)) }
+    ensures stopped { IfErr result (λ fault. IsOfPrinting fault ⊎ StopsWalking fault
+        (standing C.to_come R.remaining W.contents O.contents walk.old conversation.old)
+        (standing C.to_come R.remaining W.contents O.contents walk.new conversation.new)) }
     ensures going { OnOk result (IsGoingOn conversation.new) }
 {
     let shows_progress = rt.stderr().is_terminal() && !rt.stdout().is_terminal();
@@ -182,6 +186,9 @@ fn ask_next<C: Ticks, R: Read, W: Write, O: Write>(
     ensures stepped { IfOk result (λ status. StepsOn status
         (standing C.to_come R.remaining W.contents O.contents walk.old conversation.old)
         (standing C.to_come R.remaining W.contents O.contents walk.new conversation.new)) }
+    ensures stopped { IfErr result (λ fault. IsOfPrinting fault ⊎ StopsNext fault
+        (standing C.to_come R.remaining W.contents O.contents walk.old conversation.old)
+        (standing C.to_come R.remaining W.contents O.contents walk.new conversation.new)) }
     ensures going { OnOk result (IsGoingOn conversation.new) }
 {
     let Some(command) = walk.next() else {
@@ -196,7 +203,10 @@ fn ask_next<C: Ticks, R: Read, W: Write, O: Write>(
     if walk.take(answer).is_err() {
         return Err(AskFault::Memory);
     }
-    print_record(alloc, &command, walk, count, &mut conversation.out)?;
+    match print_record(alloc, &command, walk, count, &mut conversation.out) {
+        Ok(()) => {}
+        Err(fault) => return Err(fault),
+    }
     Ok(Some(status_of_answer(answer)))
 }
 
@@ -209,8 +219,9 @@ fn print_record<O: Write>(
     place: usize,
     out: &mut Port<O>,
 ) -> Result<(), AskFault>
-    ensures { OnOk result (Appends (O.contents (inner_of out.old)) (O.contents (inner_of out.new))
+    ensures text { OnOk result (Appends (O.contents (inner_of out.old)) (O.contents (inner_of out.new))
         (record_text command.now place walk.now)) }
+    ensures fault { IfErr result IsOfPrinting }
 {
     let mut text = Vec::new(alloc);
     if push_joined_record(command, walk, place, &mut text).is_err() {

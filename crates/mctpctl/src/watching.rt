@@ -1,9 +1,10 @@
 //! `watch`: the sensors and effecters of a device are read again and again, and their table is printed each time.
 
-ghost use Rattle.std.specs.Prelude.{◌≡◌, ◌++◌, ◌<◌, IfOk, OnOk, length, map};
+ghost use Rattle.std.specs.Prelude.{◌≡◌, ◌⊎◌, ◌++◌, ◌<◌, IfOk, IfErr, OnOk, length, map};
 ghost use Rattle.std.specs.Io.KnownBytes.{Appends};
+ghost use Rattle.mctpctl.specs.AskedTexts.{IsOfPrinting};
 ghost use Rattle.mctpctl.specs.Conversations.{IsGoingOn};
-ghost use Rattle.mctpctl.specs.WatchedTexts.{ReadsAll, ReadsOne, round_text};
+ghost use Rattle.mctpctl.specs.WatchedTexts.{ReadsAll, ReadsOne, StopsOne, StopsReading, round_text};
 ghost use Rattle.mctpctl_ask.specs.Asked.{shown};
 ghost use Rattle.mctpctl_input.specs.Ports.{inner_of, BothWork};
 
@@ -125,6 +126,9 @@ fn read_all<C: Ticks, R: Read, W: Write>(
     ensures read { IfOk result (λ read. ReadsAll walk.now
         (shown C.to_come R.remaining W.contents line.old reader.old writer.old)
         (shown C.to_come R.remaining W.contents line.new reader.new writer.new) read.0) }
+    ensures stopped { IfErr result (λ fault. IsOfPrinting fault ⊎ StopsReading walk.now fault
+        (shown C.to_come R.remaining W.contents line.old reader.old writer.old)
+        (shown C.to_come R.remaining W.contents line.new reader.new writer.new)) }
     ensures works { OnOk result (BothWork reader.new writer.new) }
 {
     let mut table = Table::new(alloc);
@@ -154,6 +158,9 @@ fn read_one<C: Ticks, R: Read, W: Write>(
     ensures read { OnOk result (ReadsOne walk.now place
         (shown C.to_come R.remaining W.contents line.old reader.old writer.old)
         (shown C.to_come R.remaining W.contents line.new reader.new writer.new) table.old table.new) }
+    ensures stopped { IfErr result (λ fault. IsOfPrinting fault ⊎ StopsOne walk.now place fault
+        (shown C.to_come R.remaining W.contents line.old reader.old writer.old)
+        (shown C.to_come R.remaining W.contents line.new reader.new writer.new)) }
     ensures works { OnOk result (BothWork reader.new writer.new) }
 {
     let found = walk.found()[place];

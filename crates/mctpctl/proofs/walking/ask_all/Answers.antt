@@ -1,6 +1,6 @@
 -- One command more was asked.
-use Rattle.std.proofs.Common.{rules, subst}
-use Rattle.mctpctl.proofs.WalkedOn.{walked_on}
+use Rattle.std.proofs.Common.{◌≡◌, inl, inr, length, refl, rules, subst, arith}
+use Rattle.mctpctl.proofs.WalkedOn.{stopped_walking, walked_on}
 use Rattle.mctpctl.specs.WalkedTexts.{StepsOn, standing}
 use Rattle.mctpctl.proofs.walking.ask_all.Goals as goal
 
@@ -11,5 +11,24 @@ loop-preserved g c =
     let b = standing g.C.Ticks.to_come g.R.Read.remaining g.W.Write.contents g.O.Write.contents c.ask_next.new.walk c.ask_next.new.conversation in
     record {
       walked = walked_on a mid b c.loop.invariant.walked (subst (λ o. StepsOn o mid b) c.in-Some.is c.in-Ok.ensures.stepped);
+      count = omega (arith, c.loop.invariant.count);
       going = search rules;
     }
+
+pub returns-in-Err-clause-stopped : goal.returns-in-Err-clause-stopped
+returns-in-Err-clause-stopped g c =
+    stopped_walking c.in-Err.fault
+    (standing g.C.Ticks.to_come g.R.Read.remaining g.W.Write.contents g.O.Write.contents c.args.walk.now c.args.conversation.now)
+    (standing g.C.Ticks.to_come g.R.Read.remaining g.W.Write.contents g.O.Write.contents c.loop.walk c.loop.conversation)
+    (standing g.C.Ticks.to_come g.R.Read.remaining g.W.Write.contents g.O.Write.contents c.ask_next.new.walk c.ask_next.new.conversation)
+    c.loop.invariant.walked c.in-Err.ensures.stopped
+
+pub returns-clause-stopped : goal.returns-clause-stopped
+returns-clause-stopped g c =
+    let all : length c.loop.invariant.walked.before ≡ 18446744073709551615 = omega arith in
+    inr (record {
+      before = c.loop.invariant.walked.before;
+      last = (standing g.C.Ticks.to_come g.R.Read.remaining g.W.Write.contents g.O.Write.contents c.loop.walk c.loop.conversation);
+      walked = c.loop.invariant.walked.walked;
+      reason = inr (refl, all);
+    })

@@ -1,4 +1,5 @@
 -- Commands were asked one after another.
+use Rattle.std.proofs.Common.{◌≡◌, length}
 use Rattle.mctpctl.proofs.WalkedOn.{WalkedSo}
 use Rattle.mctpctl.specs.Conversations.{IsGoingOn}
 use Rattle.mctpctl.specs.WalkedTexts.{standing}
@@ -9,5 +10,6 @@ invariant-loop g l = record {
   walked : WalkedSo
       (standing g.C.Ticks.to_come g.R.Read.remaining g.W.Write.contents g.O.Write.contents l.initial.walk l.initial.conversation)
       (standing g.C.Ticks.to_come g.R.Read.remaining g.W.Write.contents g.O.Write.contents l.walk l.conversation);
+  count : length walked.before ≡ l.counter;
   going : IsGoingOn l.conversation;
 }
