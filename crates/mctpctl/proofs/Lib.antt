@@ -1,5 +1,5 @@
+pub mod CommandsAsked
 pub mod FirstRecords
 pub mod LineFaults
 pub mod Numbers
-pub mod StepsAsked
 pub mod WalkedOn

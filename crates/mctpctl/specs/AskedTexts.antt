@@ -13,9 +13,7 @@ use Rattle.mctpctl_texts.specs.ShownLines.{data_text}
 use Rattle.pldm_wire.specs.Responses.{Response, response_of}
 use Rattle.pldm_wire.specs.declared.assigned.TheConstants.{SUCCESS}
 use Rattle.pldm_wire.specs.declared.command.Command.{Command}
-use Rattle.schedule_text.specs.declared.step.Action.{Action}
-use Rattle.schedule_text.specs.declared.step.Action.TheVariants.{Open}
-use Rattle.schedule_text.specs.declared.step.Step.{Step}
+use Rattle.mctpctl.specs.declared.commands.AskedCommand.{AskedCommand}
 use Rattle.mctp_packet.specs.declared.reason.Reason.{Reason}
 use Rattle.mctpctl.specs.declared.talk.TheConstants.{DONE, FAILED, REFUSED}
 
@@ -52,13 +50,12 @@ pub record Reports (hex : Bool) (command : Command) (number : ℕ) (s s1 : Shown
   pub asks : Asks command number ended s s1
   pub prints : Prints hex (answer_of s1.asking.held number) out out1
 
--- the command of a step was asked once, and its exit status is that of its own answer; no other step does anything
-abbrev pub AsksAction :
-    Bool → Action → ℕ → Shown → Shown → Option (List ℕ) → Option (List ℕ) → Type 0
-AsksAction hex (Open requester command) status s s1 out out1 =
+-- a command was asked once, and its exit status is that of its own answer
+abbrev pub AsksCommand :
+    Bool → Command → ℕ → Shown → Shown → Option (List ℕ) → Option (List ℕ) → Type 0
+AsksCommand hex command status s s1 out out1 =
     (number : ℕ) × Reports hex command number s s1 out out1
     × (status ≡ status_of_answer (answer_of s1.asking.held number))
-AsksAction hex _ status s s1 out out1 = (status ≡ DONE) × (s1 ≡ s) × (out1 ≡ out)
 
 -- a line on which commands are asked, what was printed, and the greatest exit status so far
 pub record AskedSo : Type 0 where
@@ -69,11 +66,11 @@ pub record AskedSo : Type 0 where
 abbrev pub asked_so : Shown → Option (List ℕ) → ℕ → AskedSo
 asked_so shown out status = record { shown = shown; out = out; status = status }
 
-pub record AsksStep (hex : Bool) (a : AskedSo) (step : Step) (b : AskedSo) : Type 0 where
+pub record AsksOne (hex : Bool) (a : AskedSo) (asked : AskedCommand) (b : AskedSo) : Type 0 where
   pub one : ℕ
-  pub asks : AsksAction hex step.action one a.shown b.shown a.out b.out
+  pub asks : AsksCommand hex asked.command one a.shown b.shown a.out b.out
   pub greatest : b.status ≡ max a.status one
 
--- the commands of these steps were asked one after another, each once
-abbrev pub AsksEach : Bool → List Step → AskedSo → AskedSo → Type 0
-AsksEach hex steps a b = FoldsTo (AsksStep hex) a steps b
+-- these commands were asked one after another, each once
+abbrev pub AsksEach : Bool → List AskedCommand → AskedSo → AskedSo → Type 0
+AsksEach hex commands a b = FoldsTo (AsksOne hex) a commands b

@@ -2,13 +2,12 @@
 
 ghost use Rattle.std.specs.Io.KnownBytes.{Appends};
 ghost use Rattle.std.specs.Prelude.{◌≡◌, ◌≢◌, ◌⊎◌, ◌++◌, IfOk, IfErr, OnOk, option_map};
-ghost use Rattle.mctpctl.specs.AskedTexts.{AsksAction, AsksEach, IsOfPrinting, Reports, asked_so, message_text, status_of_answer, status_of_message};
+ghost use Rattle.mctpctl.specs.AskedTexts.{AsksCommand, AsksEach, IsOfPrinting, Reports, asked_so, message_text, status_of_answer, status_of_message};
 ghost use Rattle.mctpctl.specs.Conversations.{IsGoingOn, printed_in, shown_in};
 ghost use Rattle.mctpctl_ask.specs.Asked.{AskStops};
 ghost use Rattle.mctpctl_input.specs.Ports.{inner_of};
-ghost use Rattle.schedule_text.specs.StepColumns.{borrowed_action};
 
-use crate::commands::{CommandsFault, read_commands};
+use crate::commands::{AskedCommand, CommandsFault, read_commands};
 use crate::conversation::Conversation;
 use crate::talk::{DONE, Errand, FAILED, REFUSED, USAGE, do_errand, read_settings};
 use mctp_packet::Memory;
@@ -18,7 +17,6 @@ use mctpctl_decode::push_decoded_line;
 use mctpctl_input::Port;
 use mctpctl_texts::{write_data, write_text};
 use pldm_wire::{Command, SUCCESS, read_response};
-use schedule_text::{ActionRef, Schedule, StepRef};
 use std::alloc::Global;
 use std::io::{Read, Write};
 
@@ -74,11 +72,11 @@ fn commands_failed(rt: &HostRuntime, question: &Question<'_>, fault: &CommandsFa
 pub fn ask_each<C: Ticks, R: Read, W: Write, O: Write>(
     rt: &HostRuntime,
     question: &Question<'_>,
-    commands: &Schedule,
+    commands: &[AskedCommand],
     conversation: &mut Conversation<C, R, W, O>,
 ) -> Result<u8, AskFault>
     requires going { IsGoingOn conversation.old }
-    ensures asked { IfOk result (λ status. AsksEach question.now.hex commands.now.steps
+    ensures asked { IfOk result (λ status. AsksEach question.now.hex commands.now
         (asked_so (shown_in C.to_come R.remaining W.contents conversation.old)
         (printed_in O.contents conversation.old) DONE)
         (asked_so (shown_in C.to_come R.remaining W.contents conversation.new)
@@ -86,8 +84,8 @@ pub fn ask_each<C: Ticks, R: Read, W: Write, O: Write>(
     ensures going { OnOk result (IsGoingOn conversation.new) }
 {
     let mut status = DONE;
-    for step in commands.steps().iter() {
-        match ask_step(rt, question, &step, conversation) {
+    for place in 0..commands.len() {
+        match ask_one(rt, question, &commands[place], conversation) {
             Ok(one) => status = status.max(one),
             Err(fault) => return Err(fault),
         }
@@ -95,39 +93,36 @@ pub fn ask_each<C: Ticks, R: Read, W: Write, O: Write>(
     Ok(status)
 }
 
-/// Asks the command of a step, and returns the exit status. Where no answer came, that is said on standard error.
-fn ask_step<C: Ticks, R: Read, W: Write, O: Write>(
+/// Asks a command, and returns the exit status. Where no answer came, that is said on standard error.
+fn ask_one<C: Ticks, R: Read, W: Write, O: Write>(
     rt: &HostRuntime,
     question: &Question<'_>,
-    step: &StepRef<'_>,
+    asked: &AskedCommand,
     conversation: &mut Conversation<C, R, W, O>,
 ) -> Result<u8, AskFault>
     requires going { IsGoingOn conversation.old }
-    ensures asked { IfOk result (λ status. AsksAction question.now.hex (borrowed_action step.now.action) status
+    ensures asked { IfOk result (λ status. AsksCommand question.now.hex asked.now.command status
         (shown_in C.to_come R.remaining W.contents conversation.old)
         (shown_in C.to_come R.remaining W.contents conversation.new)
         (printed_in O.contents conversation.old) (printed_in O.contents conversation.new)) }
     ensures going { OnOk result (IsGoingOn conversation.new) }
 {
-    let ActionRef::Open { command, .. } = step.action else {
-        return Ok(DONE); // a schedule of commands has no other step
-    };
     let hex = question.hex;
-    let number = match ask_command(rt.alloc(), hex, command, conversation) {
+    let number = match ask_command(rt.alloc(), hex, &asked.command, conversation) {
         Ok(number) => number,
         Err(fault) => return Err(fault),
     };
     let status = status_of_answer(conversation.line.answer(number));
     if status == FAILED {
-        say_no_answer(rt, question, step);
+        say_no_answer(rt, question, asked);
     }
     Ok(status)
 }
 
-/// Says that the command of a step got no answer.
-fn say_no_answer(rt: &HostRuntime, question: &Question<'_>, step: &StepRef<'_>) {
+/// Says that a command got no answer.
+fn say_no_answer(rt: &HostRuntime, question: &Question<'_>, asked: &AskedCommand) {
     if question.file.is_some() {
-        let _ = eprintln!(rt; "mctpctl: line {}: no answer", step.moment.get());
+        let _ = eprintln!(rt; "mctpctl: line {}: no answer", asked.line);
     } else {
         let _ = eprintln!(rt; "mctpctl: no answer");
     }

@@ -1,12 +1,22 @@
 //! The commands of `ask`, in the words of a schedule.
 
 use crate::device_file::device_text;
-use line_words::{first_word, split_line};
+use line_words::split_line;
 use mctpctl_command_line::Question;
 use mctpctl_input::MAX_DESCRIPTION;
-use schedule_text::{LineFaultKind, Schedule};
+use pldm_wire::Command;
+use schedule_text::{LineFaultKind, command_in};
 use std::alloc::{AllocError, AllocFailed, Global};
 use std::io;
+
+/// A command that is asked for.
+#[derive(Drop)]
+pub struct AskedCommand {
+    /// The number of the line that says it; the first line has 1.
+    pub line: u64,
+    /// The command.
+    pub command: Command,
+}
 
 /// Why there are no commands.
 #[derive(Drop)]
@@ -37,13 +47,12 @@ impl From<AllocError> for CommandsFault {
     }
 }
 
-/// The commands that a command line asks for: those of its file, or the one in its last words. Each is opened in a step
-/// of a schedule, whose moment is the number of its line.
+/// The commands that a command line asks for: those of its file, or the one in its last words.
 pub fn read_commands(
     rt: &HostRuntime,
     question: &Question<'_>,
     words: &[&str],
-) -> Result<Schedule, CommandsFault> {
+) -> Result<Vec<AskedCommand>, CommandsFault> {
     let alloc = rt.alloc();
     let count = question.count.min(words.len());
     match question.file {
@@ -55,7 +64,7 @@ pub fn read_commands(
             if text.len() > MAX_DESCRIPTION {
                 return Err(CommandsFault::TooLarge);
             }
-            commands_in(alloc, question.link.own, &text)
+            commands_in(alloc, &text)
         }
         None if count > 0 => {
             let mut line = Vec::new(alloc);
@@ -63,8 +72,8 @@ pub fn read_commands(
                 line.extend_from_slice(word.as_bytes())?;
                 line.push(b' ')?;
             }
-            match commands_in(alloc, question.link.own, &line) {
-                Ok(commands) if commands.steps().is_empty() => Err(CommandsFault::None), // a comment
+            match commands_in(alloc, &line) {
+                Ok(commands) if commands.is_empty() => Err(CommandsFault::None), // a comment
                 Err(CommandsFault::Line(_, kind)) => Err(CommandsFault::Word(kind)),
                 read => read,
             }
@@ -74,26 +83,23 @@ pub fn read_commands(
 }
 
 /// The commands on the lines of a text. Blank lines and comments are skipped but counted.
-fn commands_in(alloc: Global, own: &str, text: &[u8]) -> Result<Schedule, CommandsFault> {
-    let mut schedule = Schedule::new(alloc);
-    let asker = format!(in alloc; "requester {own} timeout 1 tries 1")?;
-    if let Err(fault) = schedule.add_line(0, asker.as_bytes()) {
-        return Err(CommandsFault::Word(fault.kind));
-    }
+fn commands_in(alloc: Global, text: &[u8]) -> Result<Vec<AskedCommand>, CommandsFault> {
+    let mut commands = Vec::new(alloc);
     let mut rest = text;
     for number in 1..u64::MAX {
         let (line, others) = split_line(rest).unwrap_or((rest, &[]));
-        if first_word(line).is_some() {
-            let mut step = format!(in alloc; "at {number} open {own} ")?.into_bytes();
-            step.extend_from_slice(line)?;
-            if let Err(fault) = schedule.add_line(number, &step) {
-                return Err(CommandsFault::Line(number, fault.kind));
-            }
+        match command_in(line) {
+            Ok(Some(command)) => commands.push(AskedCommand {
+                line: number,
+                command,
+            })?,
+            Ok(None) => {}
+            Err(refusal) => return Err(CommandsFault::Line(number, refusal.kind)),
         }
         if others.is_empty() {
             break;
         }
         rest = others;
     }
-    Ok(schedule)
+    Ok(commands)
 }

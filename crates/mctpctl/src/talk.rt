@@ -6,6 +6,7 @@ ghost use Rattle.mctpctl_ask.specs.Asked.{Listens, begun_as, shown};
 ghost use Rattle.mctpctl_input.specs.Ports.{BothWork};
 
 use crate::asking::ask_each;
+use crate::commands::AskedCommand;
 use crate::conversation::Conversation;
 use crate::settings::{Periods, Settings, settings_of};
 use crate::state::{Earlier, StateFault, begin_state, end_state, settling_time};
@@ -14,7 +15,6 @@ use crate::watching::watch_device;
 use mctpctl_ask::{AskFault, AskingLine, BeginFault, SystemTicks, Ticks, begin_after};
 use mctpctl_command_line::{Link, Question, TRY_HELP, WalkOptions, WatchOptions};
 use mctpctl_input::Port;
-use schedule_text::Schedule;
 use std::alloc::Global;
 use std::fs::{File, OpenOptions};
 use std::io::{Read, Write};
@@ -36,7 +36,7 @@ pub const FAILED: u8 = 3;
 #[derive(Clone, Copy)]
 pub enum Errand<'q> {
     /// These commands.
-    Ask(&'q Question<'q>, &'q Schedule),
+    Ask(&'q Question<'q>, &'q [AskedCommand]),
     /// All that it has.
     Walk(&'q WalkOptions<'q>),
     /// What its sensors and effecters say, in each of these periods.

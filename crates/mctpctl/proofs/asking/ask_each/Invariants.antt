@@ -1,16 +1,13 @@
--- The commands of the steps so far were asked.
-use Rattle.std.proofs.Common.{◌≡◌, List, ◌++◌}
+-- The commands so far were asked.
+use Rattle.std.proofs.Common.{take}
 use Rattle.mctpctl.specs.AskedTexts.{AsksEach, asked_so}
 use Rattle.mctpctl.specs.Conversations.{IsGoingOn, printed_in, shown_in}
 use Rattle.mctpctl.specs.declared.talk.TheConstants.{DONE}
-use Rattle.schedule_text.specs.declared.step.Step.{Step}
 use Rattle.mctpctl.proofs.asking.ask_each.Given as goal
 
-abbrev pub invariant-loop-step : goal.invariant-loop-step
-invariant-loop-step g l = record {
-  done : List Step;
-  all : l.commands.steps ≡ done ++ l.step-iterator;
-  asked : AsksEach l.question.hex done
+abbrev pub invariant-loop-place : goal.invariant-loop-place
+invariant-loop-place g l = record {
+  asked : AsksEach l.question.hex (take l.place l.commands)
       (asked_so (shown_in g.C.Ticks.to_come g.R.Read.remaining g.W.Write.contents l.initial.conversation) (printed_in g.O.Write.contents l.initial.conversation) DONE)
       (asked_so (shown_in g.C.Ticks.to_come g.R.Read.remaining g.W.Write.contents l.conversation) (printed_in g.O.Write.contents l.conversation) l.status);
   going : IsGoingOn l.conversation;

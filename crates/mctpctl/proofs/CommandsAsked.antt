@@ -1,0 +1,31 @@
+-- Commands that were asked, and one more.
+use native.Mathlib.Numerals.{unary_clauses}
+use Rattle.std.proofs.Common.{◌≡◌, ◌≤◌, ◌<◌, ℕ, ◌+◌, Bool, List, [], ◌∷◌, ◌++◌, get_or, length, take, refl, sym, subst, ap, ◌∙◌}
+use Rattle.std.proofs.Math.Seq.{take-suc}
+use Rattle.std.proofs.lemmas.List.{take_all}
+use Rattle.std.specs.List.{FoldsTo}
+use Rattle.std.specs.Prelude.{max}
+use Rattle.mctpctl.specs.AskedTexts.{AskedSo, AsksCommand, AsksEach, AsksOne}
+use Rattle.mctpctl.specs.declared.commands.AskedCommand.{AskedCommand}
+
+folds_append : (hex : Bool) (a : AskedSo) (commands : List AskedCommand) (mid : AskedSo) (more : List AskedCommand) (b : AskedSo)
+    → AsksEach hex commands a mid → AsksEach hex more mid b → AsksEach hex (commands ++ more) a b
+folds_append hex a [] mid more b before after = subst (λ (x : AskedSo). AsksEach hex more x b) (sym before) after
+folds_append hex a (asked ∷ commands) mid more b before after =
+    (before.0, before.1, folds_append hex before.0 commands mid more b before.2 after)
+
+pub one_more : (hex : Bool) (commands : List AskedCommand) (place : ℕ) (asked : AskedCommand) (a mid b : AskedSo) (one : ℕ)
+    → place < length commands → asked ≡ get_or commands place asked → AsksEach hex (take place commands) a mid
+    → AsksCommand hex asked.command one mid.shown b.shown mid.out b.out → b.status ≡ max mid.status one
+    → AsksEach hex (take (place + 1) commands) a b
+one_more hex commands place asked a mid b one within is before asks greatest =
+    let further : take place commands ++ asked ∷ [] ≡ take (place + 1) commands =
+        simp unary_clauses (ap (λ x. take place commands ++ x ∷ []) is ∙ sym (take-suc commands place asked within)) in
+    subst (λ (l : List AskedCommand). AsksEach hex l a b) further
+    (folds_append hex a (take place commands) mid (asked ∷ []) b before (b, record { one = one; asks = asks; greatest = greatest }, refl))
+
+-- none is left
+pub all_asked : (hex : Bool) (commands : List AskedCommand) (place : ℕ) (a b : AskedSo) → length commands ≤ place
+    → AsksEach hex (take place commands) a b → AsksEach hex commands a b
+all_asked hex commands place a b all asked =
+    subst (λ (l : List AskedCommand). AsksEach hex l a b) (take_all place commands all) asked
