@@ -20,7 +20,7 @@ pub one_more : (hex : Bool) (commands : List AskedCommand) (place : ℕ) (asked 
     → AsksEach hex (take (place + 1) commands) a b
 one_more hex commands place asked a mid b one within is before asks greatest =
     let further : take place commands ++ asked ∷ [] ≡ take (place + 1) commands =
-        simp unary_clauses (ap (λ x. take place commands ++ x ∷ []) is ∙ sym (take-suc commands place asked within)) in
+    simp unary_clauses (ap (λ x. take place commands ++ x ∷ []) is ∙ sym (take-suc commands place asked within)) in
     subst (λ (l : List AskedCommand). AsksEach hex l a b) further
     (folds_append hex a (take place commands) mid (asked ∷ []) b before (b, record { one = one; asks = asks; greatest = greatest }, refl))
 

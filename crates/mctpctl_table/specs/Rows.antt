@@ -1,6 +1,6 @@
 -- The rows of a sensor or an effecter.
-use Rattle.std.specs.Prelude.{ℕ, ◌+◌, ◌==◌, List, [], ◌∷◌, length, Option, None, Some, Result, Ok, Err, unwrap_or}
-use Rattle.std.specs.Prelude.{option_map, if◌then◌else◌}
+use Rattle.std.specs.Prelude.{ℕ, ◌+◌, List, [], ◌∷◌, length, Option, None, Some, Result, Ok, Err, unwrap_or}
+use Rattle.std.specs.Prelude.{option_map}
 use Rattle.pldm_pdr.specs.Records.{PlatformRecord, record_of}
 use Rattle.pldm_pdr.specs.declared.conversion.Conversion.{Conversion}
 use Rattle.pldm_pdr.specs.declared.data.RecordData.{RecordData}

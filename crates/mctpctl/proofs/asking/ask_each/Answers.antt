@@ -7,7 +7,7 @@ use Rattle.mctpctl.specs.declared.talk.TheConstants.{DONE}
 use Rattle.mctpctl.proofs.asking.ask_each.Goals as goal
 
 pub loop-place-init : goal.loop-place-init
-loop-place-init g c = record { asked = refl; going = c.requires; }
+loop-place-init g c = record { asked = refl; going = c.requires }
 
 pub loop-place-preserved : goal.loop-place-preserved
 loop-place-preserved g c =
