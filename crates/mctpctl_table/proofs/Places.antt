@@ -1,5 +1,5 @@
 -- One step of the search for the fewest places.
-use Rattle.std.proofs.Common.{◌≡◌, ℕ, suc, ◌+◌, ◌-◌, ◌*◌, ◌^◌, ◌<◌, ◌≤◌, Bool, true, false, Option, None, Some, option_map, arith, refl, ap, ◌∙◌, sym}
+use Rattle.std.proofs.Common.{◌≡◌, ℕ, suc, ◌+◌, ◌-◌, ◌*◌, ◌^◌, ◌<◌, ◌≤◌, Bool, true, false, None, Some, arith, refl, ◌∙◌, sym}
 use Rattle.std.specs.List.{find, range_with_len}
 use Rattle.mctpctl_table.specs.Real32s.{digits_at, is_enough, is_rounded, nearest, shortest}
 

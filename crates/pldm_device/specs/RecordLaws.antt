@@ -116,7 +116,8 @@ pub record HasMade (before : List (List ℕ)) (made : Device) : Type 0 where
   pub joined : made.records ≡ before ++ more
   pub described : All (IsRecordOf made) more
 
--- The records that a description has made come after those that it states, and each describes the device.
+-- The records that a description has made come after those that it states, and each describes the device as described,
+-- before it has run.
 abbrev pub MadeRecordsDescribe : Type 0
 MadeRecordsDescribe =
     (eid : ℕ) (document : Members) (device made : Device) → with_records eid document device ≡ Ok made

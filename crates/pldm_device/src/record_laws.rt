@@ -5,7 +5,9 @@ ghost use Rattle.pldm_device.specs.RecordLaws.{DescribedHandlesDiffer, MadeRecor
 
 /// Each record that the table `records` has made names an ID that the device answers: of a numeric sensor or effecter
 /// with the data size and the range that the device has, of one of states with its possible states and no others. The
-/// made records come after those that the description states.
+/// made records come after those that the description states. The device is the one described, before it has run: no
+/// record follows it, so after a SetTID, or with an assigned endpoint ID, the terminus locator still has the terminus
+/// ID and the endpoint ID of the description.
 pub fn made_records_tell_of_the_device()
     ensures { MadeRecordsDescribe }
 {}
