@@ -54,7 +54,8 @@ is_enough n unit places = is_rounded n unit (10 ^ places) (digits_at n unit plac
 -- the fewest places that are enough, up to ten, and the digits with these
 unfoldable pub shortest : ℕ → ℕ → Option (ℕ × ℕ)
 shortest n unit =
-    option_map (λ places. (digits_at n unit places, places)) (find (is_enough n unit) (range_with_len 0 (MAX_PLACES + 1)))
+    option_map (λ places. (digits_at n unit places, places))
+    (find (is_enough n unit) (range_with_len 0 (MAX_PLACES + 1)))
 
 abbrev pub with_sign : Bool → ℕ × ℕ → Decimal
 with_sign negative found = decimal_of (if negative then neg_ℤ (pos found.0) else pos found.0) found.1

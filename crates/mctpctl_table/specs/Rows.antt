@@ -79,7 +79,8 @@ unfoldable pub data_rows : RecordData → List (List ℕ) → Option (List ℕ) 
 data_rows (NumericSensor sensor) records message =
     numeric_rows (Sensor sensor.terminus_handle sensor.sensor_id) sensor.conversion sensor.units records message
 data_rows (NumericEffecter effecter) records message =
-    numeric_rows (Effecter effecter.terminus_handle effecter.effecter_id) effecter.conversion effecter.units records message
+    numeric_rows (Effecter effecter.terminus_handle effecter.effecter_id) effecter.conversion effecter.units records
+    message
 data_rows (StateSensor sensor) records message =
     state_rows (Sensor sensor.terminus_handle sensor.sensor_id) sensor.sets.items records message
 data_rows (StateEffecter effecter) records message =

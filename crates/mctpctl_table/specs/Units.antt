@@ -1,6 +1,6 @@
 -- The unit of a value (DSP0248, "Sensor units", "Rate units" and the fields of the numeric sensor PDR).
-use Rattle.std.specs.Prelude.{ℕ, ◌==◌, nat_lt, Bool, ◌&&◌, ◌||◌, List, [], ◌∷◌, ◌++◌, codes, Option, None, Some, is_some}
-use Rattle.std.specs.Prelude.{if◌then◌else◌}
+use Rattle.std.specs.Prelude.{ℕ, ◌==◌, nat_lt, Bool, ◌&&◌, ◌||◌, List, [], ◌∷◌, ◌++◌, codes, Option, None, Some}
+use Rattle.std.specs.Prelude.{is_some, if◌then◌else◌}
 use Rattle.mctpctl_decode.specs.UnitNames.{unit_name}
 use Rattle.pldm_pdr.specs.declared.units.Units.{Units}
 

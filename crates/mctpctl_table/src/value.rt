@@ -18,8 +18,8 @@ pub(crate) struct Value {
     pub(crate) exponent: i16,
 }
 
-/// Adds the value of a number with its unit; the number as it is, and `raw`, where it has no exact value, or the unit is
-/// more than is shown.
+/// Adds the value of a number with its unit; the number as it is, and `raw`, where it has no exact value, or the unit
+/// is more than is shown.
 #[tactic(auto, unfolding(crate::specs::Values::value_text))]
 pub(crate) fn push_value(
     out: &mut Vec<u8>,

@@ -1,4 +1,4 @@
-//! Which of the sensors and effecters that records describe are of the asked terminus (DSP0248, "Terminus locator PDR").
+//! Which sensors and effecters that records describe are of the asked terminus (DSP0248, "Terminus locator PDR").
 
 ghost use Rattle.std.specs.Prelude.{◌≡◌, filter};
 ghost use Rattle.mctpctl_walk.specs.Termini.{asked_handle, handle_by, handle_in, is_asked, is_tid};
