@@ -126,7 +126,8 @@ AssignedApart =
     → (first.moment + e.keep ≤ again.moment)
     ⊎ (KEPT_ASSIGNMENTS ≤ length (assigning (after e (first ∷ before)) later))
 
--- two queries of one endpoint, that go to one device with one tag, instance ID and command number; their data may differ
+-- two queries of one endpoint, that go to one device with one tag, instance ID and command number: their data may
+-- differ
 pub record AskAlike (q other : ControlQuery) : Type 0 where
   pub own : q.own ≡ other.own
   pub device : q.device ≡ other.device

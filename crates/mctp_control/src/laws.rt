@@ -48,8 +48,8 @@ pub fn assignments_are_accepted_once()
 {}
 
 /// No answer to another request is believed: a packet that answers a query answers none of another endpoint, to another
-/// device, on another tag, with another instance ID or of another command number. It answers with one message. What data
-/// a query had its answer does not say: who asks one command with other data gives it another instance ID.
+/// device, on another tag, with another instance ID or of another command number. It answers with one message. What
+/// data a query had, its answer does not say: a query of the same command with other data needs another instance ID.
 pub fn answers_are_of_one_query()
     ensures apart { AnswersNoOther }
     ensures one { OneAnswerMessage }
