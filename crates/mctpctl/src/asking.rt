@@ -84,8 +84,8 @@ pub fn ask_each<C: Ticks, R: Read, W: Write, O: Write>(
     ensures going { OnOk result (IsGoingOn conversation.new) }
 {
     let mut status = DONE;
-    for place in 0..commands.len() {
-        match ask_one(rt, question, &commands[place], conversation) {
+    for command in commands {
+        match ask_one(rt, question, command, conversation) {
             Ok(one) => status = status.max(one),
             Err(fault) => return Err(fault),
         }

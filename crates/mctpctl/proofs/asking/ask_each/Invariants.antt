@@ -5,9 +5,9 @@ use Rattle.mctpctl.specs.Conversations.{IsGoingOn, printed_in, shown_in}
 use Rattle.mctpctl.specs.declared.talk.TheConstants.{DONE}
 use Rattle.mctpctl.proofs.asking.ask_each.Given as goal
 
-abbrev pub invariant-loop-place : goal.invariant-loop-place
-invariant-loop-place g l = record {
-  asked : AsksEach l.question.hex (take l.place l.commands)
+abbrev pub invariant-loop-command : goal.invariant-loop-command
+invariant-loop-command g l = record {
+  asked : AsksEach l.question.hex (take l.command-index l.commands)
       (asked_so (shown_in g.C.Ticks.to_come g.R.Read.remaining g.W.Write.contents l.initial.conversation) (printed_in g.O.Write.contents l.initial.conversation) DONE)
       (asked_so (shown_in g.C.Ticks.to_come g.R.Read.remaining g.W.Write.contents l.conversation) (printed_in g.O.Write.contents l.conversation) l.status);
   going : IsGoingOn l.conversation;
