@@ -5,13 +5,13 @@ use Rattle.toml.specs.Data.{Data, Items, no_items, item, Members, get_member}
 use Rattle.pldm_pdr.specs.declared.data.RecordData.{RecordData}
 use Rattle.pldm_pdr.specs.declared.data.RecordData.TheVariants as records
 use Rattle.pldm_pdr.specs.declared.entity.Entity.{Entity}
-use Rattle.simulated_device.specs.Devices.{Device}
+use Rattle.simulated_device.specs.Devices.{Device, recorded}
 use Rattle.pldm_device.specs.Entries.{entries_at}
 use Rattle.pldm_device.specs.KeyValues.{◌>>=◌, table_in}
 use Rattle.pldm_device.specs.MadeRecords.{made_after, with_made}
 use Rattle.pldm_device.specs.RecordKeys.{entity_at, name_at}
 use Rattle.pldm_device.specs.RecordLaws.{HandlesDiffer, HasMade, IsRecordOf, MadeRecordsDescribe, Describes}
-use Rattle.pldm_device.specs.RecordTables.{all_made, each_made, entity_named, entry_made, key_of, kind_made, no_entity, recorded, records_if_there, table_made, terminus_located, terminus_made, things_made, with_records}
+use Rattle.pldm_device.specs.RecordTables.{all_made, each_made, entity_named, entry_made, key_of, kind_made, no_entity, records_if_there, table_made, terminus_located, terminus_made, things_made, with_records}
 use Rattle.pldm_device.specs.declared.made_records.MadeRecords.{MadeRecords}
 use Rattle.pldm_device.specs.declared.record_table.Kind.{Kind}
 use Rattle.pldm_device.specs.declared.record_table.Kind.TheVariants.{NumericSensors, StateSensors, NumericEffecters, StateEffecters}

@@ -27,7 +27,7 @@ use Rattle.pldm_device.specs.RecordTables.{with_records}
 use Rattle.pldm_device.specs.SensorRecords.{states_of_field}
 use Rattle.simulated_device.specs.StateEffecters.{FieldsOfStates}
 use Rattle.pldm_device.specs.declared.description.Description.{Description}
-use Rattle.pldm_device.specs.declared.limits.TheConstants.{EFFECTER_ENABLED, NO_EVENTS, SENSOR_ENABLED}
+use Rattle.simulated_device.specs.declared.limits.TheConstants.{EFFECTER_ENABLED, NO_EVENTS, SENSOR_ENABLED}
 use Rattle.simulated_device.specs.declared.numeric.NumericEffecter.{NumericEffecter}
 use Rattle.simulated_device.specs.declared.numeric.NumericSensor.{NumericSensor}
 
