@@ -2,4 +2,3 @@ pub mod BoardCommands
 pub mod Boards
 pub mod PacketLines
 pub mod Served
-pub mod ServedLines

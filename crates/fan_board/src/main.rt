@@ -7,9 +7,7 @@ mod packet_line;
 mod service;
 
 ghost use Rattle.std.specs.FinMap as map;
-ghost use Rattle.std.specs.List.{flat_map};
-ghost use Rattle.std.specs.Prelude.{◌≡◌, IfOk, string_bytes};
-ghost use Rattle.fan_board.specs.ServedLines.{packet_line, served_text};
+ghost use Rattle.std.specs.Prelude.{◌≡◌};
 ghost use Rattle.pldm_wire.specs.declared.assigned.TheConstants.{INSTANCE_IDS};
 ghost use Rattle.pldm_wire.specs.declared.busy_time.BusyTime.TheVariants.{All};
 ghost use Rattle.pldm_endpoint.specs.TwoSteps.{held_in};
@@ -18,11 +16,11 @@ ghost use Rattle.pldm_responder.specs.ResponderStates.{IsHeld, held_at_first};
 use crate::board::Board;
 use crate::packet_line::{LineFault, TimedPacket, read_line};
 use crate::service::serve;
-use mctp_packet::{Eid, Keep, Packets};
-use pldm_endpoint::{Endpoint, ReceiveRefusal};
+use mctp_packet::{Eid, Keep};
+use pldm_endpoint::Endpoint;
 use pldm_responder::{Bounds, Keeping, Outcome};
 use pldm_wire::HandedOn;
-use std::alloc::{AllocError, Global};
+use std::alloc::Global;
 
 /// The endpoint ID of the board.
 const OWN: u8 = 10;
@@ -92,38 +90,17 @@ fn handle(
     if packet.moment.get() < endpoint.last_moment().get() {
         return Err(LineFault::BackInTime.into());
     }
-    let served = serve(endpoint, board, packet.moment, &packet.bytes);
-    let text = served_text(rt.alloc(), &served)?;
-    print!(rt; "{text}")?;
+    match serve(endpoint, board, packet.moment, &packet.bytes) {
+        Ok(Outcome::Dropped(reason)) => println!(rt; "drop {}", reason.name())?,
+        Ok(Outcome::Partial) => println!(rt; "partial")?,
+        Ok(Outcome::Answered { packets, .. }) => {
+            for index in 0..packets.len() {
+                if let Some(packet) = packets.get(index) {
+                    println!(rt; "{}", hex::encode(rt.alloc(), packet)?)?;
+                }
+            }
+        }
+        Err(_) => println!(rt; "lost")?,
+    }
     Ok(())
-}
-
-/// What is written of what becomes of a packet.
-fn served_text(
-    alloc: Global,
-    served: &Result<Outcome, ReceiveRefusal>,
-) -> Result<String, AllocError>
-    ensures { IfOk result (λ text. string_bytes text ≡ served_text served.now) }
-{
-    match served {
-        Ok(Outcome::Dropped(reason)) => format!(in alloc; "drop {}\n", reason.name()),
-        Ok(Outcome::Partial) => String::from_str(alloc, "partial\n"),
-        Ok(Outcome::Answered { packets, .. }) => packets_text(alloc, packets),
-        Err(_) => String::from_str(alloc, "lost\n"),
-    }
-}
-
-/// Packets in hex, one a line.
-fn packets_text(alloc: Global, packets: &Packets) -> Result<String, AllocError>
-    ensures { IfOk result (λ text. string_bytes text ≡ flat_map packet_line packets.now) }
-{
-    let mut text = String::new(alloc);
-    for index in 0..packets.len() {
-        let Some(packet) = packets.get(index) else {
-            unreachable!();
-        };
-        text.push_str(&hex::encode(alloc, packet)?)?;
-        text.push_str("\n")?;
-    }
-    Ok(text)
 }
