@@ -1,14 +1,10 @@
 -- Commands that were asked, and one more.
-use Rattle.std.proofs.Common.{◌≡◌, ◌≤◌, ◌<◌, ℕ, ◌+◌, Bool, List, [], ◌∷◌, ◌++◌, get_or, length, nat_cmp, take, refl, sym, subst, rules}
+use Rattle.std.proofs.Common.{◌≡◌, ◌≤◌, ◌<◌, ℕ, ◌+◌, Bool, List, [], ◌∷◌, ◌++◌, get_or, length, take, refl, sym, subst, ap, ◌∙◌}
 use Rattle.std.proofs.lemmas.List.{take_all, take_more}
 use Rattle.std.specs.List.{FoldsTo}
-use Rattle.std.specs.Ordering.{ord_max}
 use Rattle.std.specs.Prelude.{max}
 use Rattle.mctpctl.specs.AskedTexts.{AskedSo, AsksCommand, AsksEach, AsksOne}
 use Rattle.mctpctl.specs.declared.commands.AskedCommand.{AskedCommand}
-
-pub greater : (a b : ℕ) → ord_max nat_cmp a b ≡ max a b
-greater a b = search rules
 
 folds_append : (hex : Bool) (a : AskedSo) (commands : List AskedCommand) (mid : AskedSo) (more : List AskedCommand) (b : AskedSo)
     → AsksEach hex commands a mid → AsksEach hex more mid b → AsksEach hex (commands ++ more) a b
@@ -16,13 +12,15 @@ folds_append hex a [] mid more b before after = subst (λ (x : AskedSo). AsksEac
 folds_append hex a (asked ∷ commands) mid more b before after =
     (before.0, before.1, folds_append hex before.0 commands mid more b before.2 after)
 
-pub one_more : (hex : Bool) (commands : List AskedCommand) (place : ℕ) (default : AskedCommand) (a mid b : AskedSo) (one : ℕ)
-    → place < length commands → AsksEach hex (take place commands) a mid
-    → AsksCommand hex (get_or commands place default).command one mid.shown b.shown mid.out b.out
-    → b.status ≡ max mid.status one → AsksEach hex (take (place + 1) commands) a b
-one_more hex commands place default a mid b one within before asks greatest =
-    subst (λ (l : List AskedCommand). AsksEach hex l a b) (sym (take_more commands place default within))
-    (folds_append hex a (take place commands) mid (get_or commands place default ∷ []) b before
+pub one_more : (hex : Bool) (commands : List AskedCommand) (place : ℕ) (asked : AskedCommand) (a mid b : AskedSo) (one : ℕ)
+    → place < length commands → asked ≡ get_or commands place asked → AsksEach hex (take place commands) a mid
+    → AsksCommand hex asked.command one mid.shown b.shown mid.out b.out → b.status ≡ max mid.status one
+    → AsksEach hex (take (place + 1) commands) a b
+one_more hex commands place asked a mid b one within is before asks greatest =
+    let further : take place commands ++ asked ∷ [] ≡ take (place + 1) commands =
+    ap (λ x. take place commands ++ x ∷ []) is ∙ sym (take_more commands place asked within) in
+    subst (λ (l : List AskedCommand). AsksEach hex l a b) further
+    (folds_append hex a (take place commands) mid (asked ∷ []) b before
     (b, record { one = one; asks = asks; greatest = greatest }, refl))
 
 -- none is left

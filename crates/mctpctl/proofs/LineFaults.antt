@@ -1,6 +1,10 @@
 -- A line that stopped, or a fault that printing may have too.
-use Rattle.std.proofs.Common.{◌≡◌, ◌≢◌, ◌⊎◌, inl, inr, refl}
+use Rattle.std.proofs.Common.{◌≡◌, ◌≢◌, ◌⊎◌, ℕ, List, inl, inr, refl}
 use Rattle.mctpctl.specs.AskedTexts.{IsOfPrinting}
+use Rattle.mctpctl.specs.WatchedTexts.{ReadsFirst, StopsOne, StopsReading}
+use Rattle.mctpctl_ask.specs.Asked.{Shown}
+use Rattle.mctpctl_table.specs.Tables.{Cells}
+use Rattle.mctpctl_walk.specs.Walks.{Walking}
 use Rattle.mctpctl_ask.specs.declared.fault.AskFault.{AskFault}
 use Rattle.mctpctl_ask.specs.declared.fault.AskFault.TheVariants.{LineEnded, Read, Write, Clock, Memory, TooMany}
 
@@ -12,6 +16,10 @@ stopped_or_printing Clock stops = inr (stops (λ (e : Clock ≡ Write). cc))
 stopped_or_printing Memory stops = inr (stops (λ (e : Memory ≡ Write). cc))
 stopped_or_printing TooMany stops = inr (stops (λ (e : TooMany ≡ Write). cc))
 
-pub on : {P Q : Type 0} (fault : AskFault) → (P → Q) → IsOfPrinting fault ⊎ P → IsOfPrinting fault ⊎ Q
-on fault f (inl printing) = inl printing
-on fault f (inr stops) = inr (f stops)
+-- what was found at the first places was read, and then the line stopped
+pub stopped_reading : (w : Walking) (place : ℕ) (fault : AskFault) (a mid b : Shown) (rows : List Cells)
+    → ReadsFirst w place a mid rows → IsOfPrinting fault ⊎ StopsOne w place fault mid b
+    → IsOfPrinting fault ⊎ StopsReading w fault a b
+stopped_reading w place fault a mid b rows read (inl printing) = inl printing
+stopped_reading w place fault a mid b rows read (inr stops) =
+    inr (record { place = place; last = mid; rows = rows; read = read; stops = stops })

@@ -1,6 +1,6 @@
 -- One command more was asked.
-use Rattle.std.proofs.Common.{refl, rules, ◌∙◌}
-use Rattle.mctpctl.proofs.CommandsAsked.{all_asked, greater, one_more}
+use Rattle.std.proofs.Common.{refl, rules}
+use Rattle.mctpctl.proofs.CommandsAsked.{all_asked, one_more}
 use Rattle.mctpctl.specs.AskedTexts.{asked_so}
 use Rattle.mctpctl.specs.Conversations.{printed_in, shown_in}
 use Rattle.mctpctl.specs.declared.talk.TheConstants.{DONE}
@@ -14,11 +14,11 @@ loop-command-preserved g c =
     let i = c.loop-command.invariant in
     record {
       asked =
-          one_more c.args.question.now.hex c.args.commands.now c.loop-command.command-index _
+          one_more c.args.question.now.hex c.args.commands.now c.loop-command.command-index c.command-item.result
           (asked_so (shown_in g.C.Ticks.to_come g.R.Read.remaining g.W.Write.contents c.args.conversation.now) (printed_in g.O.Write.contents c.args.conversation.now) DONE)
           (asked_so (shown_in g.C.Ticks.to_come g.R.Read.remaining g.W.Write.contents c.loop-command.conversation) (printed_in g.O.Write.contents c.loop-command.conversation) c.loop-command.status)
           (asked_so (shown_in g.C.Ticks.to_come g.R.Read.remaining g.W.Write.contents c.ask_one.new.conversation) (printed_in g.O.Write.contents c.ask_one.new.conversation) c.max-status.result)
-          c.in-Ok.one c.loop-command-test.true i.asked c.in-Ok.ensures.asked (c.max-status.ensures ∙ greater c.loop-command.status c.in-Ok.one);
+          c.in-Ok.one c.loop-command-test.true c.command-item.is i.asked c.in-Ok.ensures.asked c.max-status.ensures;
       going = search rules;
     }
 

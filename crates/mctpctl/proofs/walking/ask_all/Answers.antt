@@ -1,16 +1,25 @@
 -- One command more was asked.
-use Rattle.std.proofs.Common.{◌≡◌, inl, inr, length, refl, rules, subst, arith}
-use Rattle.mctpctl.proofs.WalkedOn.{stopped_walking, walked_on}
+use Rattle.std.proofs.Common.{◌≡◌, [], ◌∷◌, inl, inr, length, refl, rules, subst, arith}
+use Rattle.mctpctl.proofs.WalkedOn.{stopped_walking}
 use Rattle.mctpctl.specs.WalkedTexts.{StepsOn, standing}
 use Rattle.mctpctl.proofs.walking.ask_all.Goals as goal
 
+pub loop-init : goal.loop-init
+loop-init g c = record {
+  walked = record { before = []; walked = refl };
+  count = refl;
+  going = search rules;
+}
+
 pub loop-preserved : goal.loop-preserved
 loop-preserved g c =
-    let a = standing g.C.Ticks.to_come g.R.Read.remaining g.W.Write.contents g.O.Write.contents c.args.walk.now c.args.conversation.now in
     let mid = standing g.C.Ticks.to_come g.R.Read.remaining g.W.Write.contents g.O.Write.contents c.loop.walk c.loop.conversation in
     let b = standing g.C.Ticks.to_come g.R.Read.remaining g.W.Write.contents g.O.Write.contents c.ask_next.new.walk c.ask_next.new.conversation in
     record {
-      walked = walked_on a mid b c.loop.invariant.walked (subst (λ o. StepsOn o mid b) c.in-Some.is c.in-Ok.ensures.stepped);
+      walked = record {
+        before = mid ∷ c.loop.invariant.walked.before;
+        walked = (c.loop.invariant.walked.walked, subst (λ o. StepsOn o mid b) c.in-Some.is c.in-Ok.ensures.stepped);
+      };
       count = omega (arith, c.loop.invariant.count);
       going = search rules;
     }

@@ -1,6 +1,7 @@
 -- One sensor or effecter more was read.
 use native.Mathlib.Numerals.{unary_clauses}
 use Rattle.std.proofs.Common.{ap, length, rules}
+use Rattle.mctpctl.proofs.LineFaults.{stopped_reading}
 use Rattle.mctpctl_ask.specs.Asked.{shown}
 use Rattle.mctpctl.proofs.watching.read_all.Goals as goal
 
@@ -13,3 +14,11 @@ loop-place-preserved g c =
       writes = search rules;
       end = ap length c.found-place-end.ensures;
     }
+
+pub returns-in-Err-clause-stopped : goal.returns-in-Err-clause-stopped
+returns-in-Err-clause-stopped g c =
+    stopped_reading c.args.walk.now c.loop-place.place c.in-Err.fault
+    (shown g.C.Ticks.to_come g.R.Read.remaining g.W.Write.contents c.args.line.now c.args.reader.now c.args.writer.now)
+    (shown g.C.Ticks.to_come g.R.Read.remaining g.W.Write.contents c.loop-place.line c.loop-place.reader c.loop-place.writer)
+    (shown g.C.Ticks.to_come g.R.Read.remaining g.W.Write.contents c.read_one.new.line c.read_one.new.reader c.read_one.new.writer)
+    c.loop-place.table c.loop-place.invariant.read c.in-Err.ensures.stopped
