@@ -40,8 +40,8 @@ impl From<io::Error> for StateFault {
 pub struct Earlier {
     /// The moment up to which they were opened, where it is known.
     pub last: Option<u64>,
-    /// The moment now.
-    pub now: u64,
+    /// The present moment.
+    pub present: u64,
 }
 
 /// What the file of this name says of earlier requests, which is nothing where there is none. Until [`end_state`] the
@@ -50,7 +50,10 @@ pub fn begin_state(rt: &HostRuntime, file: Option<&str>) -> Result<Earlier, Stat
     ensures nothing { option_map (λ name. name.now) file.entry ≡ None → IfOk result (λ earlier. earlier.last ≡ None) }
 {
     let Some(name) = file else {
-        return Ok(Earlier { last: None, now: 0 });
+        return Ok(Earlier {
+            last: None,
+            present: 0,
+        });
     };
     let last = match device_text(rt, name) {
         Ok(text) => match last_moment(&text) {
@@ -63,7 +66,7 @@ pub fn begin_state(rt: &HostRuntime, file: Option<&str>) -> Result<Earlier, Stat
     write(rt, name, b"")?;
     Ok(Earlier {
         last,
-        now: now(rt)?,
+        present: now(rt)?,
     })
 }
 
@@ -106,12 +109,12 @@ fn last_moment(text: &[u8]) -> Option<Option<u64>>
 /// For how many milliseconds from now on answers may come to earlier requests: twice the keeping time after the moment
 /// up to which they were opened, and from now on where no moment is known, or one to come.
 pub fn settling_time(keep: Keep, earlier: &Earlier) -> u64
-    ensures value { result ≡ settling_in keep earlier.now.last earlier.now.now }
+    ensures value { result ≡ settling_in keep earlier.now.last earlier.now.present }
     ensures range { result < 2 ^ 60 }
 {
     let whole = 2 * u64::from(keep.get());
     match earlier.last {
-        Some(last) if last <= earlier.now => whole.saturating_sub(earlier.now - last),
+        Some(last) if last <= earlier.present => whole.saturating_sub(earlier.present - last),
         _ => whole,
     }
 }

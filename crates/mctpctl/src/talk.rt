@@ -162,7 +162,7 @@ fn begin_line<C: Ticks + Drop, R: Read, W: Write>(
 ) -> Result<AskingLine<C>, BeginFault>
     requires works { BothWork reader.old writer.old }
     ensures begun { IfOk result (λ line. Listens
-        (settling_in settings.now.timing.keep earlier.now.last earlier.now.now)
+        (settling_in settings.now.timing.keep earlier.now.last earlier.now.present)
         (begun_as C.to_come R.remaining W.contents settings.now.own settings.now.device settings.now.timing ticks
         reader.old writer.old)
         (shown C.to_come R.remaining W.contents line reader.new writer.new)) }
