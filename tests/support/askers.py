@@ -1,5 +1,7 @@
 """A device that is asked on a pseudoterminal: the words of the endpoints and times, and how a program is run on it."""
+import os
 import subprocess
+import time
 
 from support import programs
 from support.programs import SECONDS, run
@@ -8,6 +10,14 @@ from support.terminals import Terminal
 # The endpoints of the descriptions, and times for a line on which nothing is lost.
 ENDS = ("--own", "8", "--device", "9")
 TIMES = ("--keep", "500", "--timeout", "250", "--tries", "2")
+
+
+def settle(log):
+    """Waits until nothing more comes to a log: the device writes an answer's line after the answer."""
+    size, until = -1, time.monotonic() + SECONDS
+    while size != os.path.getsize(log) and time.monotonic() < until:
+        size = os.path.getsize(log)
+        time.sleep(0.3)
 
 
 class Place(programs.Place):
@@ -27,7 +37,10 @@ class Place(programs.Place):
         with Terminal() as terminal:
             served = self.serve(terminal, *(("--log", log) if log else ()))
             try:
-                return self.run(subcommand, "--line", terminal.name, *words)
+                ran = self.run(subcommand, "--line", terminal.name, *words)
+                if log:
+                    settle(log)
+                return ran
             finally:
                 served.terminate()
                 served.wait(timeout=SECONDS)
