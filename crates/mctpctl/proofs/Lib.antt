@@ -1,4 +1,5 @@
 pub mod CommandsAsked
+pub mod CommandsRead
 pub mod FirstRecords
 pub mod LineFaults
 pub mod Numbers

@@ -17,9 +17,9 @@ stopped_or_printing Memory stops = inr (stops (λ (e : Memory ≡ Write). cc))
 stopped_or_printing TooMany stops = inr (stops (λ (e : TooMany ≡ Write). cc))
 
 -- what was found at the first places was read, and then the line stopped
-pub stopped_reading : (w : Walking) (place : ℕ) (fault : AskFault) (a mid b : Shown) (rows : List Cells)
-    → ReadsFirst w place a mid rows → IsOfPrinting fault ⊎ StopsOne w place fault mid b
+pub stopped_reading : (w : Walking) (place : ℕ) (fault : AskFault) (a mid b : Shown) (rows : List Cells) (status : ℕ)
+    → ReadsFirst w place a mid rows status → IsOfPrinting fault ⊎ StopsOne w place fault mid b
     → IsOfPrinting fault ⊎ StopsReading w fault a b
-stopped_reading w place fault a mid b rows read (inl printing) = inl printing
-stopped_reading w place fault a mid b rows read (inr stops) =
-    inr (record { place = place; last = mid; rows = rows; read = read; stops = stops })
+stopped_reading w place fault a mid b rows status read (inl printing) = inl printing
+stopped_reading w place fault a mid b rows status read (inr stops) =
+    inr (record { place = place; last = mid; rows = rows; status = status; read = read; stops = stops })

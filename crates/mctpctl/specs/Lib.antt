@@ -1,3 +1,4 @@
+pub mod AskedCommands
 pub mod AskedTexts
 pub mod ControlResponders
 pub mod Conversations

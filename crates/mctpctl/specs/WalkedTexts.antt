@@ -1,27 +1,28 @@
 -- What `walk` asks and prints.
 use Rattle.std.specs.Io.KnownBytes.{Appends}
 use Rattle.std.specs.Prelude.{◌≡◌, ◌⊎◌, ◌==◌, ℕ, zero, suc, Bool, false, List, [], ◌∷◌, ◌++◌, length, slice_get, unwrap_or, Option, None, Some}
-use Rattle.std.specs.Prelude.{if◌then◌else◌}
+use Rattle.std.specs.Prelude.{if◌then◌else◌, max}
 use Rattle.mctp_control.specs.Messages.{Response, response_of}
 use Rattle.mctp_control.specs.Queries.{ControlQuery}
 use Rattle.mctp_control.specs.declared.assigned.TheConstants.{SUCCESS}
 use Rattle.mctp_control.specs.declared.command.Command.{Command as ControlCommand}
+use Rattle.mctp_control.specs.declared.command.Command.TheVariants as controls
 use Rattle.mctpctl_ask.specs.Asked.{AskStops, Shown}
 use Rattle.mctpctl_ask.specs.Ends.{answer_of}
 use Rattle.mctpctl_ask.specs.Queries.{AsksQuery}
 use Rattle.mctpctl_ask.specs.declared.fault.AskFault.{AskFault}
 use Rattle.mctpctl_ask.specs.declared.fault.AskFault.TheVariants.{TooMany}
 use Rattle.mctpctl_decode.specs.RecordTexts.{record_lines}
-use Rattle.mctpctl_table.specs.Rows.{rows_of}
+use Rattle.mctpctl_table.specs.Rows.{Described, described_of, rows_by}
 use Rattle.mctpctl_table.specs.Tables.{Cells, table_text}
 use Rattle.mctpctl_walk.specs.Steps.{after}
-use Rattle.mctpctl_walk.specs.Walks.{Walking, next_command, reading_at}
+use Rattle.mctpctl_walk.specs.Walks.{Walking, begun as begun_walk, next_command, reading_at}
 use Rattle.mctpctl_walk.specs.declared.subject.Found.{Found}
 use Rattle.pldm_wire.specs.declared.limits.TheConstants.{GET_NEXT_PART}
 use Rattle.pldm_wire.specs.declared.command.Command.{Command}
 use Rattle.pldm_wire.specs.declared.command.Command.TheVariants.{GetPdr}
 use Rattle.pldm_requester.specs.declared.timing.Timing.{Timing}
-use Rattle.mctpctl.specs.AskedTexts.{Prints, Reports}
+use Rattle.mctpctl.specs.AskedTexts.{Prints, Reports, status_of_answer}
 use Rattle.mctpctl.specs.Conversations.{printed_in, shown_in}
 use Rattle.mctpctl.specs.declared.conversation.Conversation.{Conversation}
 use Rattle.mctpctl.specs.declared.settings.Settings.{Settings}
@@ -51,6 +52,22 @@ pub record ReportsQuery (timing : Timing) (q : ControlQuery) (status : ℕ) (s s
   pub asks : AsksQuery q timing.timeout timing.tries answer s s1
   pub prints : Prints false answer out out1
   pub status_is : status ≡ status_for answer
+
+-- the three queries were asked one after another, each once; this is the greatest of their exit statuses
+pub record AsksEndpoint (settings : Settings) (status : ℕ) (s s1 : Shown) (out out1 : Option (List ℕ)) : Type 0 where
+  pub first : Shown
+  pub first_out : Option (List ℕ)
+  pub second : Shown
+  pub second_out : Option (List ℕ)
+  pub eid : ℕ
+  pub asks_eid : ReportsQuery settings.timing (query_of settings 0 controls.GetEndpointId) eid s first out first_out
+  pub uuid : ℕ
+  pub asks_uuid :
+      ReportsQuery settings.timing (query_of settings 1 controls.GetEndpointUuid) uuid first second first_out second_out
+  pub types : ℕ
+  pub asks_types :
+      ReportsQuery settings.timing (query_of settings 2 controls.GetMessageTypeSupport) types second s1 second_out out1
+  pub greatest : status ≡ max (max eid uuid) types
 
 -- ---- the walk
 -- how far a walk has come, on which line, and what was printed, where that is known
@@ -84,8 +101,8 @@ abbrev pub record_text : Command → ℕ → Walking → List ℕ
 record_text command place w = if goes_on command then joined_text (slice_get w.records place) else []
 
 -- the next command was asked, the answer to that very request was printed, and the walk took it; then the record that
--- it completed was printed, where that came in several parts
-pub record Visits (a b : Standing) : Type 0 where
+-- it completed was printed, where that came in several parts; and this is the exit status of that answer
+pub record Visits (status : ℕ) (a b : Standing) : Type 0 where
   pub command : Command
   pub next : next_command a.walking ≡ Some command
   pub number : ℕ
@@ -93,21 +110,24 @@ pub record Visits (a b : Standing) : Type 0 where
   pub reports : Reports false command number a.shown b.shown a.out answered
   pub takes : b.walking ≡ after a.walking (answer_of b.shown.asking.held number)
   pub joined : Appends answered b.out (record_text command (length a.walking.records) b.walking)
+  pub status_is : status ≡ status_of_answer (answer_of b.shown.asking.held number)
 
 -- at the walk's end nothing was done
 abbrev pub StepsOn : Option ℕ → Standing → Standing → Type 0
 StepsOn None a b = (next_command a.walking ≡ None) × (b ≡ a)
-StepsOn (Some status) a b = Visits a b
+StepsOn (Some status) a b = Visits status a b
 
--- command after command was asked; these were the standings before each, the newest first
-abbrev pub Walked : Standing → List Standing → Standing → Type 0
-Walked a [] b = b ≡ a
-Walked a (mid ∷ before) b = Walked a before mid × Visits mid b
+-- command after command was asked; these were the standings before each, the newest first, and this is the greatest of
+-- the exit statuses
+abbrev pub Walked : ℕ → Standing → List Standing → Standing → Type 0
+Walked status a [] b = (b ≡ a) × (status ≡ DONE)
+Walked status a (mid ∷ before) b =
+    (so_far : ℕ) × (one : ℕ) × Walked so_far a before mid × Visits one mid b × (status ≡ max so_far one)
 
 -- up to the walk's end
-pub record WalksThrough (a b : Standing) : Type 0 where
+pub record WalksThrough (status : ℕ) (a b : Standing) : Type 0 where
   pub before : List Standing
-  pub walked : Walked a before b
+  pub walked : Walked status a before b
   pub ends : next_command b.walking ≡ None
 
 -- the line stopped at the next command
@@ -120,7 +140,8 @@ pub record StopsNext (fault : AskFault) (a b : Standing) : Type 0 where
 pub record StopsWalking (fault : AskFault) (a b : Standing) : Type 0 where
   pub before : List Standing
   pub last : Standing
-  pub walked : Walked a before last
+  pub status : ℕ
+  pub walked : Walked status a before last
   pub reason : StopsNext fault last b ⊎ ((fault ≡ TooMany) × (length before ≡ 18446744073709551615))
 
 -- ---- the table
@@ -128,9 +149,13 @@ pub record StopsWalking (fault : AskFault) (a b : Standing) : Type 0 where
 abbrev pub record_at : Walking → Found → List ℕ
 record_at w found = unwrap_or (slice_get w.records found.place) []
 
+-- what it says of it, with its names among the records
+abbrev pub described_at : Walking → Found → Option Described
+described_at w found = described_of (record_at w found) w.records
+
 abbrev pub rows_for : Walking → ℕ → Option Found → List Cells
 rows_for w place None = []
-rows_for w place (Some found) = rows_of (record_at w found) w.records (reading_at w place)
+rows_for w place (Some found) = rows_by (described_at w found) (reading_at w place)
 
 -- the rows of what was found at a place: by its record, and by what answered for it
 abbrev pub rows_at : Walking → ℕ → List Cells
@@ -147,3 +172,20 @@ walked_rows w = first_rows w (length w.found)
 -- after a blank line, where something was found
 abbrev pub walk_text : Walking → List ℕ
 walk_text w = (if length w.found == 0 then [] else 10 ∷ []) ++ table_text (walked_rows w)
+
+-- ---- all of it
+-- the endpoint was asked, and then what a walk asks, up to its end; then the table was printed. The exit status is the
+-- greatest, or FAILED where the records were not written to their file
+pub record WalksDevice (settings : Settings) (status : ℕ) (s s1 : Shown) (out out1 : Option (List ℕ)) : Type 0 where
+  pub endpoint : ℕ
+  pub begun : Shown
+  pub begun_out : Option (List ℕ)
+  pub asks : AsksEndpoint settings endpoint s begun out begun_out
+  pub walked : ℕ
+  pub first : Standing
+  pub last : Standing
+  pub walks : WalksThrough walked first last
+  pub from_the_start : first ≡ record { walking = begun_walk; shown = begun; out = begun_out }
+  pub shown : last.shown ≡ s1
+  pub prints : Appends last.out out1 (walk_text last.walking)
+  pub status_is : (status ≡ max endpoint walked) ⊎ (status ≡ FAILED)

@@ -1,39 +1,43 @@
 -- What `watch` asks and prints.
 use Rattle.std.specs.Fmt.{decimal}
-use Rattle.std.specs.Prelude.{◌≡◌, ℕ, zero, suc, List, [], ◌∷◌, ◌++◌, codes, length, slice_get, Option, Some}
+use Rattle.std.specs.Prelude.{◌≡◌, ℕ, zero, suc, List, [], ◌∷◌, ◌++◌, codes, length, max, slice_get, Option, Some}
 use Rattle.mctpctl_ask.specs.Asked.{AskStops, Asks, Shown}
 use Rattle.mctpctl_ask.specs.Ends.{answer_of}
 use Rattle.mctpctl_ask.specs.declared.fault.AskFault.{AskFault}
 use Rattle.mctpctl_ask.specs.declared.line.Ended.{Ended}
-use Rattle.mctpctl_table.specs.Rows.{rows_of}
+use Rattle.mctpctl_table.specs.Rows.{rows_by}
 use Rattle.mctpctl_table.specs.Marks.{marked_text}
 use Rattle.mctpctl_table.specs.Tables.{Cells}
 use Rattle.mctpctl_walk.specs.Subjects.{question}
 use Rattle.mctpctl_walk.specs.Walks.{Walking}
 use Rattle.mctpctl_walk.specs.declared.subject.Found.{Found}
-use Rattle.mctpctl.specs.WalkedTexts.{record_at}
+use Rattle.mctpctl.specs.AskedTexts.{status_of_answer}
+use Rattle.mctpctl.specs.WalkedTexts.{described_at}
+use Rattle.mctpctl.specs.declared.talk.TheConstants.{DONE}
 
 -- the rows of what was found, by its record and by what answered for it
-abbrev pub rows_by : Walking → Found → Option (List ℕ) → List Cells
-rows_by w found message = rows_of (record_at w found) w.records message
+abbrev pub rows_heard : Walking → Found → Option (List ℕ) → List Cells
+rows_heard w found message = rows_by (described_at w found) message
 
--- its question was asked, and the answer to that very request gave its rows
-pub record ReadsOne (w : Walking) (place : ℕ) (s s1 : Shown) (rows rows1 : List Cells) : Type 0 where
+-- its question was asked, and the answer to that very request gave its rows and the exit status
+pub record ReadsOne (w : Walking) (place : ℕ) (s s1 : Shown) (rows rows1 : List Cells) (status : ℕ) : Type 0 where
   pub found : Found
   pub is_found : slice_get w.found place ≡ Some found
   pub number : ℕ
   pub ended : Ended
   pub asks : Asks (question found.subject) number ended s s1
-  pub rows_are : rows1 ≡ rows ++ rows_by w found (answer_of s1.asking.held number)
+  pub rows_are : rows1 ≡ rows ++ rows_heard w found (answer_of s1.asking.held number)
+  pub status_is : status ≡ status_of_answer (answer_of s1.asking.held number)
 
--- what was found at the first places, so many, was read one after the other
-abbrev pub ReadsFirst : Walking → ℕ → Shown → Shown → List Cells → Type 0
-ReadsFirst w zero s s1 rows = (s1 ≡ s) × (rows ≡ [])
-ReadsFirst w (suc place) s s1 rows =
-    (mid : Shown) × (before : List Cells) × ReadsFirst w place s mid before × ReadsOne w place mid s1 before rows
+-- what was found at the first places, so many, was read one after the other; this is the greatest of the exit statuses
+abbrev pub ReadsFirst : Walking → ℕ → Shown → Shown → List Cells → ℕ → Type 0
+ReadsFirst w zero s s1 rows status = (s1 ≡ s) × (rows ≡ []) × (status ≡ DONE)
+ReadsFirst w (suc place) s s1 rows status =
+    (mid : Shown) × (before : List Cells) × (so_far : ℕ) × (one : ℕ) × ReadsFirst w place s mid before so_far
+    × ReadsOne w place mid s1 before rows one × (status ≡ max so_far one)
 
-abbrev pub ReadsAll : Walking → Shown → Shown → List Cells → Type 0
-ReadsAll w s s1 rows = ReadsFirst w (length w.found) s s1 rows
+abbrev pub ReadsAll : Walking → Shown → Shown → List Cells → ℕ → Type 0
+ReadsAll w s s1 rows status = ReadsFirst w (length w.found) s s1 rows status
 
 -- the line stopped at the question of what was found at a place
 pub record StopsOne (w : Walking) (place : ℕ) (fault : AskFault) (s s1 : Shown) : Type 0 where
@@ -46,7 +50,8 @@ pub record StopsReading (w : Walking) (fault : AskFault) (s s1 : Shown) : Type 0
   pub place : ℕ
   pub last : Shown
   pub rows : List Cells
-  pub read : ReadsFirst w place s last rows
+  pub status : ℕ
+  pub read : ReadsFirst w place s last rows status
   pub stops : StopsOne w place fault last s1
 
 -- the moment, the rows with those that have changed marked, and a blank line

@@ -1,7 +1,7 @@
 //! `ask`: commands go out to a device on a serial line, and their answers are printed.
 
 ghost use Rattle.std.specs.Io.KnownBytes.{Appends};
-ghost use Rattle.std.specs.Prelude.{◌≡◌, ◌≢◌, ◌⊎◌, ◌++◌, IfOk, IfErr, OnOk, option_map};
+ghost use Rattle.std.specs.Prelude.{◌≡◌, ◌≢◌, ◌≤◌, ◌⊎◌, ◌++◌, IfOk, IfErr, OnOk, option_map};
 ghost use Rattle.mctpctl.specs.AskedTexts.{AsksCommand, AsksEach, IsOfPrinting, Reports, asked_so, message_text, status_of_answer, status_of_message};
 ghost use Rattle.mctpctl.specs.Conversations.{IsGoingOn, printed_in, shown_in};
 ghost use Rattle.mctpctl_ask.specs.Asked.{AskStops};
@@ -21,7 +21,9 @@ use std::alloc::Global;
 use std::io::{Read, Write};
 
 /// Asks the device what the command line says, and returns the exit status. What fails is said on standard error.
-pub fn ask_device(rt: &HostRuntime, question: &Question<'_>, words: &[&str]) -> u8 {
+pub fn ask_device(rt: &HostRuntime, question: &Question<'_>, words: &[&str]) -> u8
+    ensures { result ≤ FAILED }
+{
     let settings = match read_settings(rt, &question.link) {
         Ok(settings) => settings,
         Err(status) => return status,
@@ -38,7 +40,9 @@ pub fn ask_device(rt: &HostRuntime, question: &Question<'_>, words: &[&str]) -> 
 }
 
 /// Says why there are no commands, and returns the exit status.
-fn commands_failed(rt: &HostRuntime, question: &Question<'_>, fault: &CommandsFault) -> u8 {
+fn commands_failed(rt: &HostRuntime, question: &Question<'_>, fault: &CommandsFault) -> u8
+    ensures { result ≤ FAILED }
+{
     let file = question.file.unwrap_or("");
     match fault {
         CommandsFault::None => {
@@ -81,6 +85,7 @@ pub fn ask_each<C: Ticks, R: Read, W: Write, O: Write>(
         (printed_in O.contents conversation.old) DONE)
         (asked_so (shown_in C.to_come R.remaining W.contents conversation.new)
         (printed_in O.contents conversation.new) status)) }
+    ensures range { IfOk result (λ status. status ≤ FAILED) }
     ensures going { OnOk result (IsGoingOn conversation.new) }
 {
     let mut status = DONE;
@@ -105,6 +110,7 @@ fn ask_one<C: Ticks, R: Read, W: Write, O: Write>(
         (shown_in C.to_come R.remaining W.contents conversation.old)
         (shown_in C.to_come R.remaining W.contents conversation.new)
         (printed_in O.contents conversation.old) (printed_in O.contents conversation.new)) }
+    ensures range { IfOk result (λ status. status ≤ FAILED) }
     ensures going { OnOk result (IsGoingOn conversation.new) }
 {
     let hex = question.hex;
@@ -193,7 +199,8 @@ pub fn print_text<O: Write>(text: &[u8], out: &mut Port<O>) -> Result<(), AskFau
 
 /// The exit status of an answer, where one came.
 pub fn status_of_answer(answer: Option<&[u8]>) -> u8
-    ensures { result ≡ status_of_answer (option_map (λ message. message.now) answer.entry) }
+    ensures value { result ≡ status_of_answer (option_map (λ message. message.now) answer.entry) }
+    ensures range { result ≤ FAILED }
 {
     match answer {
         Some(message) => status_of_message(message),
@@ -215,7 +222,8 @@ fn push_message(hex: bool, message: &[u8], out: &mut Vec<u8>) -> Result<(), Memo
 
 /// The exit status of an answer, by its completion code.
 fn status_of_message(message: &[u8]) -> u8
-    ensures { result ≡ status_of_message message.now }
+    ensures value { result ≡ status_of_message message.now }
+    ensures range { result ≤ FAILED }
 {
     match read_response(message) {
         Ok(response) if response.code() == SUCCESS => DONE,

@@ -1,5 +1,8 @@
 //! The commands of `ask`, in the words of a schedule.
 
+ghost use Rattle.std.specs.Prelude.{◌≡◌, IfErr, IfOk, Ok, OnOk};
+ghost use Rattle.mctpctl.specs.AskedCommands.{IsOfLines, commands_of, with_line};
+
 use crate::device_file::device_text;
 use line_words::split_line;
 use mctpctl_command_line::Question;
@@ -83,23 +86,38 @@ pub fn read_commands(
 }
 
 /// The commands on the lines of a text. Blank lines and comments are skipped but counted.
-fn commands_in(alloc: Global, text: &[u8]) -> Result<Vec<AskedCommand>, CommandsFault> {
+fn commands_in(alloc: Global, text: &[u8]) -> Result<Vec<AskedCommand>, CommandsFault>
+    ensures commands { IfOk result (λ commands. commands_of text.now ≡ Ok commands.items) }
+    ensures fault { IfErr result (λ fault. IsOfLines (commands_of text.now) fault) }
+{
     let mut commands = Vec::new(alloc);
+    let mut number = 1;
     let mut rest = text;
-    for number in 1..u64::MAX {
-        let (line, others) = split_line(rest).unwrap_or((rest, &[]));
-        match command_in(line) {
-            Ok(Some(command)) => commands.push(AskedCommand {
-                line: number,
-                command,
-            })?,
-            Ok(None) => {}
-            Err(refusal) => return Err(CommandsFault::Line(number, refusal.kind)),
-        }
-        if others.is_empty() {
-            break;
-        }
-        rest = others;
+    while let Some((line, after)) = split_line(rest) {
+        add_command(&mut commands, number, line)?;
+        number += 1;
+        rest = after;
     }
+    add_command(&mut commands, number, rest)?;
     Ok(commands)
+}
+
+/// Adds the command that the line of this number says, where it says one.
+fn add_command(
+    commands: &mut Vec<AskedCommand>,
+    number: u64,
+    line: &[u8],
+) -> Result<(), CommandsFault>
+    ensures added { OnOk result (with_line number commands.old.items line.now ≡ Ok commands.new.items) }
+    ensures fault { IfErr result (λ fault. IsOfLines (with_line number commands.old.items line.now) fault) }
+{
+    match command_in(line) {
+        Ok(Some(command)) => commands.push(AskedCommand {
+            line: number,
+            command,
+        })?,
+        Ok(None) => {}
+        Err(refusal) => return Err(CommandsFault::Line(number, refusal.kind)),
+    }
+    Ok(())
 }

@@ -1,6 +1,6 @@
 //! Faults on standard error, and their exit statuses.
 
-ghost use Rattle.std.specs.Prelude.{◌≡◌};
+ghost use Rattle.std.specs.Prelude.{◌≡◌, ◌≤◌};
 ghost use Rattle.mctpctl.specs.LineFaults.{engine_fault_of};
 ghost use Rattle.mctpctl_input.specs.Statuses.{status_of_fault};
 
@@ -11,7 +11,8 @@ use std::alloc::AllocError;
 /// Prints the line of a fault on standard error, and returns its exit status. Where there is no memory for the line,
 /// none is printed.
 pub fn print_fault(rt: &HostRuntime, fault: &EngineFault) -> u8
-    ensures { result ≡ status_of_fault fault.now }
+    ensures value { result ≡ status_of_fault fault.now }
+    ensures range { result ≤ 3 }
 {
     if let Ok(line) = fault_line(rt.alloc(), fault) {
         let _ = eprintln!(rt; "mctpctl: {line}");

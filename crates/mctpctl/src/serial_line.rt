@@ -1,6 +1,6 @@
 //! `serve`: the described device on a serial line, which is standard input and output.
 
-ghost use Rattle.std.specs.Prelude.{◌≡◌};
+ghost use Rattle.std.specs.Prelude.{◌≡◌, ◌≤◌};
 ghost use Rattle.mctp_serial.specs.Readings.{idle};
 ghost use Rattle.mctpctl.specs.ControlResponders.{eid_at_first, responder_of};
 ghost use Rattle.pldm_responder.specs.Ends.{eid_or_null, unreached};
@@ -38,7 +38,9 @@ enum ServiceFault {
 }
 
 /// Serves the device until its line ends, and returns the exit status. A fault is printed on standard error.
-pub fn serve_device(rt: &HostRuntime, service: &Service<'_>) -> u8 {
+pub fn serve_device(rt: &HostRuntime, service: &Service<'_>) -> u8
+    ensures { result ≤ FAILED }
+{
     match run(rt, service) {
         Ok(()) => DONE,
         Err(ServiceFault::Device(error)) => file_failed(rt, service.device, &error),
@@ -59,7 +61,9 @@ pub fn serve_device(rt: &HostRuntime, service: &Service<'_>) -> u8 {
 }
 
 /// Prints that the file of this name failed, and returns the exit status.
-fn file_failed(rt: &HostRuntime, name: &str, error: &io::Error) -> u8 {
+fn file_failed(rt: &HostRuntime, name: &str, error: &io::Error) -> u8
+    ensures { result ≡ FAILED }
+{
     let _ = eprintln!(rt; "mctpctl: {name}: {error}");
     FAILED
 }

@@ -72,7 +72,9 @@ pub fn begin_state(rt: &HostRuntime, file: Option<&str>) -> Result<Earlier, Stat
 
 /// Keeps in the file of this name, where there is one, that the last request was opened before now, and returns the
 /// exit status of the requests.
-pub fn end_state(rt: &HostRuntime, file: Option<&str>, status: u8) -> Result<u8, StateFault> {
+pub fn end_state(rt: &HostRuntime, file: Option<&str>, status: u8) -> Result<u8, StateFault>
+    ensures { IfOk result (λ kept. kept ≡ status) }
+{
     let Some(name) = file else {
         return Ok(status);
     };

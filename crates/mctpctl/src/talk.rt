@@ -1,8 +1,10 @@
 //! A conversation with a device on a serial line: the line is opened, and the answers to earlier requests pass first.
 
-ghost use Rattle.std.specs.Prelude.{IfOk, OnOk};
+ghost use Rattle.std.specs.Prelude.{◌≡◌, ◌≤◌, IfErr, IfOk, OnOk, Some};
+ghost use Rattle.mctpctl.specs.Settings.{settings_in};
 ghost use Rattle.mctpctl.specs.States.{settling_in};
 ghost use Rattle.mctpctl_ask.specs.Asked.{Listens, begun_as, shown};
+ghost use Rattle.mctpctl_command_line.specs.Choice.{linked};
 ghost use Rattle.mctpctl_input.specs.Ports.{BothWork};
 
 use crate::asking::ask_each;
@@ -53,7 +55,10 @@ struct Talk<'q> {
 }
 
 /// The settings that the words spell; else the exit status, once the refused option is named on standard error.
-pub fn read_settings(rt: &HostRuntime, link: &Link<'_>) -> Result<Settings, u8> {
+pub fn read_settings(rt: &HostRuntime, link: &Link<'_>) -> Result<Settings, u8>
+    ensures ok { IfOk result (λ settings. settings_in (linked link.now) ≡ Some settings) }
+    ensures err { IfErr result (λ status. status ≡ USAGE) }
+{
     match settings_of(link) {
         Ok(settings) => Ok(settings),
         Err(option) => {
@@ -65,7 +70,9 @@ pub fn read_settings(rt: &HostRuntime, link: &Link<'_>) -> Result<Settings, u8> 
 
 /// Does an errand on a line, with the state that a file keeps, and returns the exit status. What fails is said on
 /// standard error.
-pub fn do_errand(rt: &HostRuntime, link: &Link<'_>, settings: &Settings, errand: Errand<'_>) -> u8 {
+pub fn do_errand(rt: &HostRuntime, link: &Link<'_>, settings: &Settings, errand: Errand<'_>) -> u8
+    ensures { result ≤ FAILED }
+{
     match do_with_state(rt, link, settings, errand) {
         Ok(status) => status,
         Err(fault) => state_failed(rt, link, &fault),
@@ -78,7 +85,9 @@ fn do_with_state(
     link: &Link<'_>,
     settings: &Settings,
     errand: Errand<'_>,
-) -> Result<u8, StateFault> {
+) -> Result<u8, StateFault>
+    ensures { IfOk result (λ status. status ≤ FAILED) }
+{
     let earlier = begin_state(rt, link.state)?;
     let talk = Talk {
         settings: *settings,
@@ -90,7 +99,9 @@ fn do_with_state(
 }
 
 /// Does an errand over the line that is named, and returns the exit status.
-fn talk_on_line(rt: &HostRuntime, link: &Link<'_>, talk: &Talk<'_>) -> u8 {
+fn talk_on_line(rt: &HostRuntime, link: &Link<'_>, talk: &Talk<'_>) -> u8
+    ensures { result ≤ FAILED }
+{
     let Some(path) = link.line else {
         return talk_over(rt, talk, rt.stdin(), rt.stdout(), rt.stderr());
     };
@@ -117,7 +128,9 @@ fn talk_over<R: Read + Drop, W: Write + Drop, O: Write + Drop>(
     reader: R,
     writer: W,
     out: O,
-) -> u8 {
+) -> u8
+    ensures { result ≤ FAILED }
+{
     let Ok(ticks) = SystemTicks::new(rt) else {
         return line_failed(rt, AskFault::Clock);
     };
@@ -178,7 +191,9 @@ fn begin_line<C: Ticks + Drop, R: Read, W: Write>(
 }
 
 /// Says why nothing can be asked, and returns the exit status.
-fn begin_failed(rt: &HostRuntime, fault: BeginFault) -> u8 {
+fn begin_failed(rt: &HostRuntime, fault: BeginFault) -> u8
+    ensures { result ≤ FAILED }
+{
     match fault {
         BeginFault::Timing(fault) => {
             let _ = eprint!(rt; "error: {fault}{TRY_HELP}");
@@ -189,13 +204,17 @@ fn begin_failed(rt: &HostRuntime, fault: BeginFault) -> u8 {
 }
 
 /// Says why nothing more was asked, and returns the exit status.
-fn line_failed(rt: &HostRuntime, fault: AskFault) -> u8 {
+fn line_failed(rt: &HostRuntime, fault: AskFault) -> u8
+    ensures { result ≡ FAILED }
+{
     let _ = eprintln!(rt; "mctpctl: {fault}");
     FAILED
 }
 
 /// Says why the file of the state is of no use, and returns the exit status.
-fn state_failed(rt: &HostRuntime, link: &Link<'_>, fault: &StateFault) -> u8 {
+fn state_failed(rt: &HostRuntime, link: &Link<'_>, fault: &StateFault) -> u8
+    ensures { result ≤ FAILED }
+{
     let file = link.state.unwrap_or("");
     match fault {
         StateFault::File(error) => {

@@ -1,11 +1,12 @@
 //! `walk`: a device is asked for all that it has, its answers are printed, and a table of what it measures and sets.
 
-ghost use Rattle.std.specs.Prelude.{◌≡◌, ◌⊎◌, ◌<◌, ◌++◌, IfOk, IfErr, OnOk, length, map};
+ghost use Rattle.std.specs.Prelude.{◌≡◌, ◌⊎◌, ◌<◌, ◌≤◌, ◌++◌, IfOk, IfErr, IfSome, OnOk, length, map};
 ghost use Rattle.std.specs.Io.KnownBytes.{Appends};
 ghost use Rattle.mctp_control.specs.declared.assigned.TheConstants.{INSTANCE_IDS};
 ghost use Rattle.mctpctl.specs.AskedTexts.{IsOfPrinting};
 ghost use Rattle.mctpctl.specs.Conversations.{IsGoingOn, printed_in, shown_in};
-ghost use Rattle.mctpctl.specs.WalkedTexts.{StepsOn, StopsNext, StopsWalking, ReportsQuery, WalksThrough, goes_on, query_of, record_text, status_of_query, rows_at, standing, walk_text, walked_rows};
+ghost use Rattle.mctpctl.specs.WalkedTexts.{AsksEndpoint, StepsOn, StopsNext, StopsWalking, ReportsQuery, WalksDevice, WalksThrough, described_at, goes_on, query_of, record_text, status_of_query, rows_at, standing, walk_text, walked_rows};
+ghost use Rattle.mctpctl_ask.specs.Queries.{StopsQuery};
 ghost use Rattle.mctpctl_input.specs.Ports.{inner_of};
 
 use crate::asking::{ask_command, print_message, print_text, status_of_answer};
@@ -18,7 +19,7 @@ use mctpctl_ask::{AskFault, Ticks, ask_control};
 use mctpctl_command_line::WalkOptions;
 use mctpctl_decode::push_record;
 use mctpctl_input::Port;
-use mctpctl_table::Table;
+use mctpctl_table::{Described, Table};
 use mctpctl_texts::write_text;
 use mctpctl_walk::Walk;
 use pldm_wire::{Command, GET_NEXT_PART};
@@ -27,7 +28,9 @@ use std::fs;
 use std::io::{self, IsTerminal, Read, Write};
 
 /// Asks the device for all that it has, and returns the exit status. What fails is said on standard error.
-pub fn run_walk(rt: &HostRuntime, options: &WalkOptions<'_>) -> u8 {
+pub fn run_walk(rt: &HostRuntime, options: &WalkOptions<'_>) -> u8
+    ensures { result ≤ FAILED }
+{
     match read_settings(rt, &options.link) {
         Ok(settings) => do_errand(rt, &options.link, &settings, Errand::Walk(options)),
         Err(status) => status,
@@ -42,11 +45,25 @@ pub fn walk_device<C: Ticks, R: Read, W: Write, O: Write>(
     conversation: &mut Conversation<C, R, W, O>,
 ) -> Result<u8, AskFault>
     requires going { IsGoingOn conversation.old }
+    ensures walked { IfOk result (λ status. WalksDevice settings.now status
+        (shown_in C.to_come R.remaining W.contents conversation.old)
+        (shown_in C.to_come R.remaining W.contents conversation.new)
+        (printed_in O.contents conversation.old) (printed_in O.contents conversation.new)) }
+    ensures range { IfOk result (λ status. status ≤ FAILED) }
 {
-    let found = ask_endpoint(rt, settings, conversation)?;
+    let found = match ask_endpoint(rt, settings, conversation) {
+        Ok(found) => found,
+        Err(fault) => return Err(fault),
+    };
     let mut walk = Walk::new(rt.alloc());
-    let walked = ask_all(rt, &mut walk, conversation)?;
-    print_table(rt.alloc(), &walk, &mut conversation.out)?;
+    let walked = match ask_all(rt, &mut walk, conversation) {
+        Ok(walked) => walked,
+        Err(fault) => return Err(fault),
+    };
+    match print_table(rt.alloc(), &walk, &mut conversation.out) {
+        Ok(()) => {}
+        Err(fault) => return Err(fault),
+    }
     match write_records(rt, options, &walk) {
         Ok(()) => Ok(found.max(walked)),
         Err(error) => {
@@ -65,15 +82,29 @@ fn ask_endpoint<C: Ticks, R: Read, W: Write, O: Write>(
     conversation: &mut Conversation<C, R, W, O>,
 ) -> Result<u8, AskFault>
     requires going { IsGoingOn conversation.old }
+    ensures asked { IfOk result (λ status. AsksEndpoint settings.now status
+        (shown_in C.to_come R.remaining W.contents conversation.old)
+        (shown_in C.to_come R.remaining W.contents conversation.new)
+        (printed_in O.contents conversation.old) (printed_in O.contents conversation.new)) }
+    ensures range { IfOk result (λ status. status ≤ FAILED) }
     ensures going { OnOk result (IsGoingOn conversation.new) }
 {
     let eid = query(settings, 0, ControlCommand::GetEndpointId);
-    let eid = ask_query(rt, settings, &eid, conversation)?;
+    let eid_status = match ask_query(rt, settings, &eid, conversation) {
+        Ok(status) => status,
+        Err(fault) => return Err(fault),
+    };
     let uuid = query(settings, 1, ControlCommand::GetEndpointUuid);
-    let uuid = ask_query(rt, settings, &uuid, conversation)?;
+    let uuid_status = match ask_query(rt, settings, &uuid, conversation) {
+        Ok(status) => status,
+        Err(fault) => return Err(fault),
+    };
     let types = query(settings, 2, ControlCommand::GetMessageTypeSupport);
-    let types = ask_query(rt, settings, &types, conversation)?;
-    Ok(eid.max(uuid).max(types))
+    let types_status = match ask_query(rt, settings, &types, conversation) {
+        Ok(status) => status,
+        Err(fault) => return Err(fault),
+    };
+    Ok(eid_status.max(uuid_status).max(types_status))
 }
 
 /// The query of a command with this instance ID.
@@ -103,6 +134,11 @@ fn ask_query<C: Ticks, R: Read, W: Write, O: Write>(
         (shown_in C.to_come R.remaining W.contents conversation.old)
         (shown_in C.to_come R.remaining W.contents conversation.new)
         (printed_in O.contents conversation.old) (printed_in O.contents conversation.new)) }
+    ensures stopped { IfErr result (λ fault. IsOfPrinting fault
+        ⊎ StopsQuery query.now settings.now.timing.timeout settings.now.timing.tries fault
+        (shown_in C.to_come R.remaining W.contents conversation.old)
+        (shown_in C.to_come R.remaining W.contents conversation.new)) }
+    ensures range { IfOk result (λ status. status ≤ FAILED) }
     ensures going { OnOk result (IsGoingOn conversation.new) }
 {
     let Conversation {
@@ -120,13 +156,16 @@ fn ask_query<C: Ticks, R: Read, W: Write, O: Write>(
         say_no_answer(rt);
         return Ok(FAILED);
     };
-    print_message(rt.alloc(), false, &message, out)?;
-    Ok(status_of_query(&message))
+    match print_message(rt.alloc(), false, &message, out) {
+        Ok(()) => Ok(status_of_query(&message)),
+        Err(fault) => Err(fault),
+    }
 }
 
 /// The exit status of an answer to a query, by its completion code.
 fn status_of_query(message: &[u8]) -> u8
-    ensures { result ≡ status_of_query message.now }
+    ensures value { result ≡ status_of_query message.now }
+    ensures range { result ≤ FAILED }
 {
     match read_response(message) {
         Some(response) if response.code() == SUCCESS => DONE,
@@ -146,12 +185,13 @@ pub fn ask_all<C: Ticks, R: Read, W: Write, O: Write>(
     conversation: &mut Conversation<C, R, W, O>,
 ) -> Result<u8, AskFault>
     requires going { IsGoingOn conversation.old }
-    ensures walked { OnOk result (WalksThrough
+    ensures walked { IfOk result (λ status. WalksThrough status
         (standing C.to_come R.remaining W.contents O.contents walk.old conversation.old)
         (standing C.to_come R.remaining W.contents O.contents walk.new conversation.new)) }
     ensures stopped { IfErr result (λ fault. IsOfPrinting fault ⊎ StopsWalking fault
         (standing C.to_come R.remaining W.contents O.contents walk.old conversation.old)
         (standing C.to_come R.remaining W.contents O.contents walk.new conversation.new)) }
+    ensures range { IfOk result (λ status. status ≤ FAILED) }
     ensures going { OnOk result (IsGoingOn conversation.new) }
 {
     let shows_progress = rt.stderr().is_terminal() && !rt.stdout().is_terminal();
@@ -189,6 +229,7 @@ fn ask_next<C: Ticks, R: Read, W: Write, O: Write>(
     ensures stopped { IfErr result (λ fault. IsOfPrinting fault ⊎ StopsNext fault
         (standing C.to_come R.remaining W.contents O.contents walk.old conversation.old)
         (standing C.to_come R.remaining W.contents O.contents walk.new conversation.new)) }
+    ensures range { IfOk result (λ status. IfSome status (λ one. one ≤ FAILED)) }
     ensures going { OnOk result (IsGoingOn conversation.new) }
 {
     let Some(command) = walk.next() else {
@@ -295,10 +336,10 @@ fn push_table(alloc: Global, walk: &Walk, out: &mut Vec<u8>) -> Result<(), Memor
 fn table_of(alloc: Global, walk: &Walk) -> Result<Table, Memory>
     ensures { IfOk result (λ table. table ≡ walked_rows walk.now) }
 {
-    let records = records_of(alloc, walk)?;
+    let described = described_of(alloc, walk)?;
     let mut table = Table::new(alloc);
     for place in 0..walk.found().len() {
-        add_found(&mut table, walk, &records, place)?;
+        add_found(&mut table, walk, &described, place)?;
     }
     Ok(table)
 }
@@ -307,20 +348,34 @@ fn table_of(alloc: Global, walk: &Walk) -> Result<Table, Memory>
 fn add_found(
     table: &mut Table,
     walk: &Walk,
-    records: &[Vec<u8>],
+    described: &[Option<Described>],
     place: usize,
 ) -> Result<(), Memory>
-    requires records { map (λ pdr. pdr.items) records.now ≡ walk.now.records }
+    requires described { described.now ≡ map (described_at walk.now) walk.now.found }
     requires place { place < length walk.now.found }
     ensures { OnOk result (table.new ≡ table.old ++ rows_at walk.now place) }
 {
-    let found = walk.found()[place];
-    let record = walk.record(found.place).unwrap_or(&[]);
-    table.add(record, records, walk.reading(place))
+    match &described[place] {
+        Some(described) => table.add(described, walk.reading(place)),
+        None => Ok(()),
+    }
+}
+
+/// What the record of each sensor and effecter that a walk has found says of it, with its names among the records.
+pub fn described_of(alloc: Global, walk: &Walk) -> Result<Vec<Option<Described>>, Memory>
+    ensures { IfOk result (λ described. described.items ≡ map (described_at walk.now) walk.now.found) }
+{
+    let records = records_of(alloc, walk)?;
+    let mut described = Vec::new(alloc);
+    for found in walk.found() {
+        let record = walk.record(found.place).unwrap_or(&[]);
+        described.push(Described::read(alloc, record, &records)?)?;
+    }
+    Ok(described)
 }
 
 /// The records of a walk, in the order in which they were read.
-pub fn records_of(alloc: Global, walk: &Walk) -> Result<Vec<Vec<u8>>, Memory>
+fn records_of(alloc: Global, walk: &Walk) -> Result<Vec<Vec<u8>>, Memory>
     ensures { IfOk result (λ records. map (λ pdr. pdr.items) records.items ≡ walk.now.records) }
 {
     let mut records = Vec::new(alloc);

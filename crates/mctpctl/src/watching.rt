@@ -1,9 +1,10 @@
 //! `watch`: the sensors and effecters of a device are read again and again, and their table is printed each time.
 
-ghost use Rattle.std.specs.Prelude.{◌≡◌, ◌⊎◌, ◌++◌, ◌<◌, IfOk, IfErr, OnOk, length, map};
+ghost use Rattle.std.specs.Prelude.{◌≡◌, ◌⊎◌, ◌++◌, ◌<◌, ◌≤◌, IfOk, IfErr, OnOk, length, map};
 ghost use Rattle.std.specs.Io.KnownBytes.{Appends};
 ghost use Rattle.mctpctl.specs.AskedTexts.{IsOfPrinting};
 ghost use Rattle.mctpctl.specs.Conversations.{IsGoingOn};
+ghost use Rattle.mctpctl.specs.WalkedTexts.{described_at};
 ghost use Rattle.mctpctl.specs.WatchedTexts.{ReadsAll, ReadsOne, StopsOne, StopsReading, round_text};
 ghost use Rattle.mctpctl_ask.specs.Asked.{shown};
 ghost use Rattle.mctpctl_input.specs.Ports.{inner_of, BothWork};
@@ -12,12 +13,12 @@ use crate::asking::{print_text, status_of_answer};
 use crate::conversation::Conversation;
 use crate::settings::{MAX_EVERY, Periods, periods_of};
 use crate::talk::{DONE, Errand, FAILED, USAGE, do_errand, read_settings};
-use crate::walking::{ask_all, records_of};
+use crate::walking::{ask_all, described_of};
 use mctp_packet::{Memory, Moment};
 use mctpctl_ask::{AskFault, AskingLine, Ticks, ask, listen};
 use mctpctl_command_line::{TRY_HELP, WatchOptions};
 use mctpctl_input::Port;
-use mctpctl_table::Table;
+use mctpctl_table::{Described, Table};
 use mctpctl_texts::{write_number, write_text};
 use mctpctl_walk::Walk;
 use std::alloc::Global;
@@ -26,7 +27,9 @@ use std::io::{self, Read, Write};
 
 /// Reads the sensors and effecters of the device, as often as the command line says, and returns the exit status. What
 /// fails is said on standard error.
-pub fn run_watch(rt: &HostRuntime, options: &WatchOptions<'_>) -> u8 {
+pub fn run_watch(rt: &HostRuntime, options: &WatchOptions<'_>) -> u8
+    ensures { result ≤ FAILED }
+{
     let settings = match read_settings(rt, &options.link) {
         Ok(settings) => settings,
         Err(status) => return status,
@@ -54,6 +57,7 @@ pub fn watch_device<C: Ticks + Drop, R: Read + Drop, W: Write + Drop, O: Write +
     conversation: Conversation<C, R, W, O>,
 ) -> Result<u8, AskFault>
     requires going { IsGoingOn conversation }
+    ensures { IfOk result (λ status. status ≤ FAILED) }
 {
     let mut log = match log_of(rt, options) {
         Ok(log) => log,
@@ -62,7 +66,7 @@ pub fn watch_device<C: Ticks + Drop, R: Read + Drop, W: Write + Drop, O: Write +
     let mut walk = Walk::new(rt.alloc());
     let (mut quiet, mut out) = conversation.printing_to(Port::new(Vec::new(rt.alloc())));
     let mut status = ask_all(rt, &mut walk, &mut quiet)?;
-    let Ok(records) = records_of(rt.alloc(), &walk) else {
+    let Ok(described) = described_of(rt.alloc(), &walk) else {
         return Err(AskFault::Memory);
     };
     let mut before = Table::new(rt.alloc());
@@ -71,7 +75,7 @@ pub fn watch_device<C: Ticks + Drop, R: Read + Drop, W: Write + Drop, O: Write +
         let (table, one) = read_all(
             rt.alloc(),
             &walk,
-            &records,
+            &described,
             &mut quiet.line,
             &mut quiet.reader,
             &mut quiet.writer,
@@ -105,7 +109,9 @@ fn log_of(rt: &HostRuntime, options: &WatchOptions<'_>) -> io::Result<Option<Fil
 }
 
 /// Says why the readings are not written, and returns the exit status.
-fn log_failed(rt: &HostRuntime, options: &WatchOptions<'_>, error: &io::Error) -> u8 {
+fn log_failed(rt: &HostRuntime, options: &WatchOptions<'_>, error: &io::Error) -> u8
+    ensures { result ≡ FAILED }
+{
     let file = options.readings.unwrap_or("");
     let _ = eprintln!(rt; "mctpctl: {file}: {error}");
     FAILED
@@ -116,16 +122,17 @@ fn log_failed(rt: &HostRuntime, options: &WatchOptions<'_>, error: &io::Error) -
 fn read_all<C: Ticks, R: Read, W: Write>(
     alloc: Global,
     walk: &Walk,
-    records: &[Vec<u8>],
+    described: &[Option<Described>],
     line: &mut AskingLine<C>,
     reader: &mut Port<R>,
     writer: &mut Port<W>,
 ) -> Result<(Table, u8), AskFault>
-    requires records { map (λ pdr. pdr.items) records.now ≡ walk.now.records }
+    requires described { described.now ≡ map (described_at walk.now) walk.now.found }
     requires works { BothWork reader.old writer.old }
     ensures read { IfOk result (λ read. ReadsAll walk.now
         (shown C.to_come R.remaining W.contents line.old reader.old writer.old)
-        (shown C.to_come R.remaining W.contents line.new reader.new writer.new) read.0) }
+        (shown C.to_come R.remaining W.contents line.new reader.new writer.new) read.0 read.1) }
+    ensures range { IfOk result (λ read. read.1 ≤ FAILED) }
     ensures stopped { IfErr result (λ fault. IsOfPrinting fault ⊎ StopsReading walk.now fault
         (shown C.to_come R.remaining W.contents line.old reader.old writer.old)
         (shown C.to_come R.remaining W.contents line.new reader.new writer.new)) }
@@ -134,7 +141,7 @@ fn read_all<C: Ticks, R: Read, W: Write>(
     let mut table = Table::new(alloc);
     let mut status = DONE;
     for place in 0..walk.found().len() {
-        match read_one(walk, records, place, line, reader, writer, &mut table) {
+        match read_one(walk, described, place, line, reader, writer, &mut table) {
             Ok(one) => status = status.max(one),
             Err(fault) => return Err(fault),
         }
@@ -145,19 +152,20 @@ fn read_all<C: Ticks, R: Read, W: Write>(
 /// Reads the sensor or effecter at this place of a walk, adds its rows to a table, and returns the exit status.
 fn read_one<C: Ticks, R: Read, W: Write>(
     walk: &Walk,
-    records: &[Vec<u8>],
+    described: &[Option<Described>],
     place: usize,
     line: &mut AskingLine<C>,
     reader: &mut Port<R>,
     writer: &mut Port<W>,
     table: &mut Table,
 ) -> Result<u8, AskFault>
-    requires records { map (λ pdr. pdr.items) records.now ≡ walk.now.records }
+    requires described { described.now ≡ map (described_at walk.now) walk.now.found }
     requires place { place < length walk.now.found }
     requires works { BothWork reader.old writer.old }
-    ensures read { OnOk result (ReadsOne walk.now place
+    ensures read { IfOk result (λ status. ReadsOne walk.now place
         (shown C.to_come R.remaining W.contents line.old reader.old writer.old)
-        (shown C.to_come R.remaining W.contents line.new reader.new writer.new) table.old table.new) }
+        (shown C.to_come R.remaining W.contents line.new reader.new writer.new) table.old table.new status) }
+    ensures range { IfOk result (λ status. status ≤ FAILED) }
     ensures stopped { IfErr result (λ fault. IsOfPrinting fault ⊎ StopsOne walk.now place fault
         (shown C.to_come R.remaining W.contents line.old reader.old writer.old)
         (shown C.to_come R.remaining W.contents line.new reader.new writer.new)) }
@@ -169,8 +177,9 @@ fn read_one<C: Ticks, R: Read, W: Write>(
         Err(fault) => return Err(fault),
     };
     let answer = line.answer(asked.number);
-    let record = walk.record(found.place).unwrap_or(&[]);
-    if table.add(record, records, answer).is_err() {
+    if let Some(described) = &described[place]
+        && table.add(described, answer).is_err()
+    {
         return Err(AskFault::Memory);
     }
     Ok(status_of_answer(answer))

@@ -6,7 +6,7 @@ use Rattle.pldm_pdr.specs.declared.possible_states.PossibleStates.{PossibleState
 use Rattle.mctpctl_table.specs.NameRecords.{names_of}
 use Rattle.mctpctl_table.specs.Names.{name_text}
 use Rattle.mctpctl_table.specs.Replies.{state_reading}
-use Rattle.mctpctl_table.specs.Rows.{field_row, field_rows, field_state, field_value, name_cell}
+use Rattle.mctpctl_table.specs.Rows.{field_row, field_rows, field_state, field_value, name_at, name_cell}
 use Rattle.mctpctl_table.specs.States.{what_text}
 use Rattle.mctpctl_table.specs.Tables.{Cells, cells}
 use Rattle.mctpctl_table.specs.declared.reading.StateReading.{StateReading}
@@ -47,21 +47,21 @@ unfolding name_cell
 no_name thing place records i le = rw (drop_of_length-le records le) refl
 
 -- one more field has its row
-pub more_rows : (thing : Thing) (count place : ℕ) (sets : List PossibleStates) (states : PossibleStates) (records : List (List ℕ)) (reply : Reply) (reading : Option StateReading) (row : Cells) (old new whole : List Cells)
+pub more_rows : (thing : Thing) (count place : ℕ) (sets : List PossibleStates) (states : PossibleStates) (names : List (List ℕ)) (reply : Reply) (reading : Option StateReading) (row : Cells) (old new whole : List Cells)
     → place < length sets → states ≡ get_or sets place states → reading ≡ state_reading count place reply
-    → row ≡ cells (what_text thing) (name_cell thing place records) (field_value states reading) (field_state thing reply reading)
+    → row ≡ cells (what_text thing) (name_at names place) (field_value states reading) (field_state thing reply reading)
     → new ≡ old ++ row ∷ []
-    → old ++ field_rows thing count place (drop place sets) records reply ≡ whole
-    → new ++ field_rows thing count (place + 1) (drop (place + 1) sets) records reply ≡ whole
+    → old ++ field_rows thing count place (drop place sets) names reply ≡ whole
+    → new ++ field_rows thing count (place + 1) (drop (place + 1) sets) names reply ≡ whole
 unfolding field_rows field_row
-more_rows thing count place sets states records reply reading row old new whole lt states_is reading_is row_is new_is before =
+more_rows thing count place sets states names reply reading row old new whole lt states_is reading_is row_is new_is before =
     let left : drop place sets ≡ get_or sets place states ∷ drop (place + 1) sets = drop_more sets place states lt in
     rw (new_is, row_is, reading_is)
-    (append_assoc old _ (field_rows thing count (place + 1) (drop (place + 1) sets) records reply) ∙ (rw (left, sym states_is) at before))
+    (append_assoc old _ (field_rows thing count (place + 1) (drop (place + 1) sets) names reply) ∙ (rw (left, sym states_is) at before))
 
 -- no field is left
-pub all_rows : (thing : Thing) (count place : ℕ) (sets : List PossibleStates) (records : List (List ℕ)) (reply : Reply) (rows whole : List Cells)
-    → length sets ≤ place → rows ++ field_rows thing count place (drop place sets) records reply ≡ whole → rows ≡ whole
+pub all_rows : (thing : Thing) (count place : ℕ) (sets : List PossibleStates) (names : List (List ℕ)) (reply : Reply) (rows whole : List Cells)
+    → length sets ≤ place → rows ++ field_rows thing count place (drop place sets) names reply ≡ whole → rows ≡ whole
 unfolding field_rows
-all_rows thing count place sets records reply rows whole le before =
+all_rows thing count place sets names reply rows whole le before =
     sym (append-nil rows) ∙ (rw (drop_of_length-le sets le) at before)

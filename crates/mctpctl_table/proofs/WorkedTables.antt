@@ -17,7 +17,7 @@ use Rattle.mctpctl_table.specs.Decimals.{size_text}
 use Rattle.mctpctl_table.specs.NameRecords.{names_of}
 use Rattle.mctpctl_table.specs.Names.{name_text, units_text}
 use Rattle.mctpctl_table.specs.Real32s.{real32_decimal, shortest}
-use Rattle.mctpctl_table.specs.Rows.{data_rows, field_row, field_rows, name_cell, numeric_row, rows_of}
+use Rattle.mctpctl_table.specs.Rows.{data_rows, described_of, field_row, field_rows, name_cell, numeric_row, rows_of}
 use Rattle.mctpctl_table.specs.States.{listed, operation_text, possible_from, present_text, state_value_text}
 use Rattle.mctpctl_table.specs.Tables.{line, table_text}
 use Rattle.mctpctl_table.specs.Units.{is_shown, rate_name, unit_text}
@@ -38,12 +38,12 @@ power_answer : List ℕ
 power_answer = 1 ∷ 0 ∷ 2 ∷ 33 ∷ 0 ∷ 1 ∷ 0 ∷ 1 ∷ 1 ∷ 1 ∷ []
 
 row : table_text (rows_of power (power_name ∷ []) (Some power_answer)) ≡ codes "sensor 5  Power  state 1 (set 260: 1, 5)  enabled\n"
-unfolding power power_name power_answer data_rows field_row field_rows name_cell names_of name_text units_text and_then byte_at flag_at list_at number_at refused entity_at state_sensor_at composite_at possible_states_at sets_at success_of response_of listed operation_text possible_from state_value_text line digits encode_utf8 utf16_chars
+unfolding power power_name power_answer described_of data_rows field_row field_rows name_cell names_of name_text units_text and_then byte_at flag_at list_at number_at refused entity_at state_sensor_at composite_at possible_states_at sets_at success_of response_of listed operation_text possible_from state_value_text line digits encode_utf8 utf16_chars
 row = refl
 
 -- no message came
 silent : table_text (rows_of power [] None) ≡ codes "sensor 5  -  -  no answer\n"
-unfolding power data_rows field_row field_rows name_cell and_then byte_at flag_at list_at number_at refused entity_at state_sensor_at composite_at possible_states_at sets_at line digits
+unfolding power described_of data_rows field_row field_rows name_cell and_then byte_at flag_at list_at number_at refused entity_at state_sensor_at composite_at possible_states_at sets_at line digits
 silent = refl
 
 -- numeric sensor 2: tenths of a degree C, of two bytes
@@ -58,5 +58,5 @@ inlet_answer : List ℕ
 inlet_answer = 1 ∷ 0 ∷ 2 ∷ 17 ∷ 0 ∷ 3 ∷ 1 ∷ 0 ∷ 8 ∷ 1 ∷ 8 ∷ 159 ∷ 1 ∷ []
 
 warm : table_text (rows_of inlet (power_name ∷ []) (Some inlet_answer)) ≡ codes "sensor 2  -  41.5 degrees_c  upperWarning, disabled\n"
-unfolding power_name inlet inlet_answer data_rows numeric_row name_cell names_of and_then byte_at signed_byte_at flag_at list_at number_at sized_at size_at refused entity_at units_at conversion_at sensor_range_at format_at numeric_sensor_at success_of response_of operation_text present_text line digits value_text value_of is_shown rate_name unit_text unit_name electric_unit_name real32_decimal shortest size_text
+unfolding power_name inlet inlet_answer described_of data_rows numeric_row name_cell names_of and_then byte_at signed_byte_at flag_at list_at number_at sized_at size_at refused entity_at units_at conversion_at sensor_range_at format_at numeric_sensor_at success_of response_of operation_text present_text line digits value_text value_of is_shown rate_name unit_text unit_name electric_unit_name real32_decimal shortest size_text
 warm = refl

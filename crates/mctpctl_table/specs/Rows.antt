@@ -1,6 +1,6 @@
 -- The rows of a sensor or an effecter.
-use Rattle.std.specs.Prelude.{ℕ, ◌+◌, List, [], ◌∷◌, length, Option, None, Some, Result, Ok, Err, unwrap_or}
-use Rattle.std.specs.Prelude.{option_map}
+use Rattle.std.specs.Prelude.{ℕ, zero, suc, ◌+◌, List, [], ◌∷◌, ◌++◌, length, slice_get, Option, None, Some, Result, Ok, Err}
+use Rattle.std.specs.Prelude.{option_map, unwrap_or}
 use Rattle.pldm_pdr.specs.Records.{PlatformRecord, record_of}
 use Rattle.pldm_pdr.specs.declared.conversion.Conversion.{Conversion}
 use Rattle.pldm_pdr.specs.declared.data.RecordData.{RecordData}
@@ -29,6 +29,37 @@ name_cell thing place [] = 45 ∷ []
 name_cell thing place (bytes ∷ records) =
     unwrap_or (option_map (name_text place) (names_of thing bytes)) (name_cell thing place records)
 
+-- the names at its first places, so many
+abbrev pub first_names : Thing → ℕ → List (List ℕ) → List (List ℕ)
+first_names thing zero records = []
+first_names thing (suc place) records = first_names thing place records ++ name_cell thing place records ∷ []
+
+abbrev pub name_at : List (List ℕ) → ℕ → List ℕ
+name_at names place = unwrap_or (slice_get names place) []
+
+-- what a record holds, and the names of the fields of the sensor or effecter that it describes
+pub record Described : Type 0 where
+  pub contents : RecordData
+  pub names : List (List ℕ)
+
+abbrev pub names_for : RecordData → List (List ℕ) → List (List ℕ)
+names_for (NumericSensor sensor) records = first_names (Sensor sensor.terminus_handle sensor.sensor_id) 1 records
+names_for (NumericEffecter effecter) records =
+    first_names (Effecter effecter.terminus_handle effecter.effecter_id) 1 records
+names_for (StateSensor sensor) records =
+    first_names (Sensor sensor.terminus_handle sensor.sensor_id) (length sensor.sets.items) records
+names_for (StateEffecter effecter) records =
+    first_names (Effecter effecter.terminus_handle effecter.effecter_id) (length effecter.sets.items) records
+names_for contents records = []
+
+abbrev pub described_in : Result PlatformRecord RecordFault → List (List ℕ) → Option Described
+described_in (Ok r) records = Some (record { contents = r.contents; names = names_for r.contents records })
+described_in (Err fault) records = None
+
+-- of the bytes of a record, with the names that stand in these records
+unfoldable pub described_of : List ℕ → List (List ℕ) → Option Described
+described_of bytes records = described_in (record_of bytes) records
+
 -- a numeric sensor or effecter
 
 abbrev pub numeric_value : Conversion → Units → Option NumericReading → List ℕ
@@ -40,8 +71,8 @@ numeric_state thing reply None = missing_text (numeric_kind thing) reply
 numeric_state thing reply (Some reading) = states_text thing reading.state reading.operational
 
 unfoldable pub numeric_row : Thing → Conversion → Units → List (List ℕ) → Reply → Cells
-numeric_row thing conversion units records reply =
-    cells (what_text thing) (name_cell thing 0 records) (numeric_value conversion units (numeric_reading reply))
+numeric_row thing conversion units names reply =
+    cells (what_text thing) (name_at names 0) (numeric_value conversion units (numeric_reading reply))
     (numeric_state thing reply (numeric_reading reply))
 
 -- one field of a state sensor or effecter, which has so many
@@ -55,42 +86,43 @@ field_state thing reply None = missing_text (state_kind thing) reply
 field_state thing reply (Some reading) = operation_text thing reading.operational
 
 unfoldable pub field_row : Thing → ℕ → ℕ → PossibleStates → List (List ℕ) → Reply → Cells
-field_row thing count place states records reply =
-    cells (what_text thing) (name_cell thing place records) (field_value states (state_reading count place reply))
+field_row thing count place states names reply =
+    cells (what_text thing) (name_at names place) (field_value states (state_reading count place reply))
     (field_state thing reply (state_reading count place reply))
 
 -- each field, from a place on
 unfoldable pub field_rows : Thing → ℕ → ℕ → List PossibleStates → List (List ℕ) → Reply → List Cells
-field_rows thing count place [] records reply = []
-field_rows thing count place (states ∷ sets) records reply =
-    field_row thing count place states records reply ∷ field_rows thing count (place + 1) sets records reply
+field_rows thing count place [] names reply = []
+field_rows thing count place (states ∷ sets) names reply =
+    field_row thing count place states names reply ∷ field_rows thing count (place + 1) sets names reply
 
--- what a record describes, its names among records, and the message that came for it
+-- what a record describes, the names of its fields, and the message that came for it
 
 abbrev pub numeric_rows : Thing → Conversion → Units → List (List ℕ) → Option (List ℕ) → List Cells
-numeric_rows thing conversion units records message =
-    numeric_row thing conversion units records (reply_to (numeric_kind thing) message) ∷ []
+numeric_rows thing conversion units names message =
+    numeric_row thing conversion units names (reply_to (numeric_kind thing) message) ∷ []
 
 abbrev pub state_rows : Thing → List PossibleStates → List (List ℕ) → Option (List ℕ) → List Cells
-state_rows thing sets records message =
-    field_rows thing (length sets) 0 sets records (reply_to (state_kind thing) message)
+state_rows thing sets names message =
+    field_rows thing (length sets) 0 sets names (reply_to (state_kind thing) message)
 
 unfoldable pub data_rows : RecordData → List (List ℕ) → Option (List ℕ) → List Cells
-data_rows (NumericSensor sensor) records message =
-    numeric_rows (Sensor sensor.terminus_handle sensor.sensor_id) sensor.conversion sensor.units records message
-data_rows (NumericEffecter effecter) records message =
-    numeric_rows (Effecter effecter.terminus_handle effecter.effecter_id) effecter.conversion effecter.units records
+data_rows (NumericSensor sensor) names message =
+    numeric_rows (Sensor sensor.terminus_handle sensor.sensor_id) sensor.conversion sensor.units names message
+data_rows (NumericEffecter effecter) names message =
+    numeric_rows (Effecter effecter.terminus_handle effecter.effecter_id) effecter.conversion effecter.units names
     message
-data_rows (StateSensor sensor) records message =
-    state_rows (Sensor sensor.terminus_handle sensor.sensor_id) sensor.sets.items records message
-data_rows (StateEffecter effecter) records message =
-    state_rows (Effecter effecter.terminus_handle effecter.effecter_id) effecter.sets.items records message
-data_rows contents records message = []
+data_rows (StateSensor sensor) names message =
+    state_rows (Sensor sensor.terminus_handle sensor.sensor_id) sensor.sets.items names message
+data_rows (StateEffecter effecter) names message =
+    state_rows (Effecter effecter.terminus_handle effecter.effecter_id) effecter.sets.items names message
+data_rows contents names message = []
 
-abbrev pub rows_in : Result PlatformRecord RecordFault → List (List ℕ) → Option (List ℕ) → List Cells
-rows_in (Ok r) records message = data_rows r.contents records message
-rows_in (Err fault) records message = []
+-- the rows by what a record describes: none where it is no record of a sensor or an effecter
+abbrev pub rows_by : Option Described → Option (List ℕ) → List Cells
+rows_by None message = []
+rows_by (Some described) message = data_rows described.contents described.names message
 
--- the rows of the bytes of a record: none where they are no record of a sensor or an effecter
+-- the rows of the bytes of a record, with the names that stand in these records
 abbrev pub rows_of : List ℕ → List (List ℕ) → Option (List ℕ) → List Cells
-rows_of bytes records message = rows_in (record_of bytes) records message
+rows_of bytes records message = rows_by (described_of bytes records) message

@@ -4,6 +4,7 @@
 mod columns;
 mod decimal;
 mod decimal_text;
+mod described;
 mod log;
 mod marks;
 mod name;
@@ -20,4 +21,5 @@ mod thing;
 mod unit;
 mod value;
 
+pub use described::Described;
 pub use table::Table;

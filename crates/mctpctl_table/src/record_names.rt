@@ -3,7 +3,7 @@
 ghost use Rattle.std.specs.Prelude.{◌≡◌, ◌≤◌, ◌<◌, ◌+◌, ◌∷◌, [], IfOk, length, map, option_map};
 ghost use Rattle.mctpctl_table.specs.NameRecords.{has_header, is_for, is_names_record, names_of, number_at};
 ghost use Rattle.mctpctl_table.specs.Names.{name_text};
-ghost use Rattle.mctpctl_table.specs.Rows.{name_cell};
+ghost use Rattle.mctpctl_table.specs.Rows.{name_at, name_cell};
 
 use crate::name::name_text;
 use crate::text::push_text;
@@ -40,6 +40,16 @@ pub(crate) fn name_cell(
         }
     }
     dash(alloc)
+}
+
+/// A copy of the name at this place; an empty text where there is none.
+pub(crate) fn name_at(alloc: Global, names: &[Vec<u8>], place: usize) -> Result<Vec<u8>, Memory>
+    ensures { IfOk result (λ cell. cell.items ≡ name_at (map (λ name. name.items) names.now) place) }
+{
+    match names.get(place) {
+        Some(name) => Ok(name.clone()?),
+        None => Ok(Vec::new(alloc)),
+    }
 }
 
 /// A dash.

@@ -2,12 +2,12 @@
 
 ghost use Rattle.std.specs.Prelude.{◌≡◌, ◌++◌, IfOk, OnOk, length, map, option_map};
 ghost use Rattle.mctpctl_table.specs.Replies.{numeric_reading};
-ghost use Rattle.mctpctl_table.specs.Rows.{data_rows, field_rows, field_state, field_value, name_cell, numeric_row, numeric_rows, numeric_state, numeric_value, rows_of, state_rows};
+ghost use Rattle.mctpctl_table.specs.Rows.{data_rows, field_rows, field_state, field_value, name_at, numeric_row, numeric_rows, numeric_state, numeric_value, state_rows};
 ghost use Rattle.mctpctl_table.specs.States.{what_text};
 ghost use Rattle.mctpctl_table.specs.Tables.{cells};
 
 use crate::reading::{StateReading, numeric_reading, state_reading};
-use crate::record_names::{dash, name_cell};
+use crate::record_names::{dash, name_at};
 use crate::reply::{Reply, reply_to};
 use crate::row::Row;
 use crate::state_text::{push_missing, push_operation, push_state_value, push_states};
@@ -17,34 +17,17 @@ use mctp_packet::Memory;
 use pldm_pdr::{Conversion, PossibleStates, RecordData, Units};
 use std::alloc::Global;
 
-/// Adds the rows of the sensor or effecter that a record's bytes describe.
-pub(crate) fn push_rows_of(
-    rows: &mut Vec<Row>,
-    alloc: Global,
-    record: &[u8],
-    records: &[Vec<u8>],
-    message: Option<&[u8]>,
-) -> Result<(), Memory>
-    ensures { OnOk result (rows.new.items ≡ rows.old.items ++ rows_of record.now
-        (map (λ bytes. bytes.items) records.now) (option_map (λ bytes. bytes.now) message.entry)) }
-{
-    match pldm_pdr::read(record) {
-        Ok(record) => push_data_rows(rows, alloc, record.contents(), records, message),
-        Err(_) => Ok(()),
-    }
-}
-
 /// Adds the rows of the sensor or effecter that a record describes.
 #[tactic(auto, unfolding(crate::specs::Rows::data_rows))]
-fn push_data_rows(
+pub(crate) fn push_data_rows(
     rows: &mut Vec<Row>,
     alloc: Global,
     contents: &RecordData,
-    records: &[Vec<u8>],
+    names: &[Vec<u8>],
     message: Option<&[u8]>,
 ) -> Result<(), Memory>
     ensures { OnOk result (rows.new.items ≡ rows.old.items ++ data_rows contents.now
-        (map (λ bytes. bytes.items) records.now) (option_map (λ bytes. bytes.now) message.entry)) }
+        (map (λ name. name.items) names.now) (option_map (λ bytes. bytes.now) message.entry)) }
 {
     match contents {
         RecordData::NumericSensor(sensor) => {
@@ -58,7 +41,7 @@ fn push_data_rows(
                 &thing,
                 &sensor.conversion,
                 &sensor.units,
-                records,
+                names,
                 message,
             )
         }
@@ -73,7 +56,7 @@ fn push_data_rows(
                 &thing,
                 &effecter.conversion,
                 &effecter.units,
-                records,
+                names,
                 message,
             )
         }
@@ -82,14 +65,14 @@ fn push_data_rows(
                 terminus: sensor.terminus_handle,
                 id: sensor.sensor_id,
             };
-            push_state_rows(rows, alloc, &thing, &sensor.sets, records, message)
+            push_state_rows(rows, alloc, &thing, &sensor.sets, names, message)
         }
         RecordData::StateEffecter(effecter) => {
             let thing = Thing::Effecter {
                 terminus: effecter.terminus_handle,
                 id: effecter.effecter_id,
             };
-            push_state_rows(rows, alloc, &thing, &effecter.sets, records, message)
+            push_state_rows(rows, alloc, &thing, &effecter.sets, names, message)
         }
         _ => Ok(()),
     }
@@ -102,14 +85,14 @@ fn push_numeric_row(
     thing: &Thing,
     conversion: &Conversion,
     units: &Units,
-    records: &[Vec<u8>],
+    names: &[Vec<u8>],
     message: Option<&[u8]>,
 ) -> Result<(), Memory>
     ensures { OnOk result (rows.new.items ≡ rows.old.items ++ numeric_rows thing.now conversion.now units.now
-        (map (λ bytes. bytes.items) records.now) (option_map (λ bytes. bytes.now) message.entry)) }
+        (map (λ name. name.items) names.now) (option_map (λ bytes. bytes.now) message.entry)) }
 {
     let reply = reply_to(&thing.numeric_command(), message);
-    let row = numeric_row(alloc, thing, conversion, units, records, &reply)?;
+    let row = numeric_row(alloc, thing, conversion, units, names, &reply)?;
     rows.push(row)?;
     Ok(())
 }
@@ -121,14 +104,14 @@ fn numeric_row(
     thing: &Thing,
     conversion: &Conversion,
     units: &Units,
-    records: &[Vec<u8>],
+    names: &[Vec<u8>],
     reply: &Reply,
 ) -> Result<Row, Memory>
     ensures { IfOk result (λ row. row
-        ≡ numeric_row thing.now conversion.now units.now (map (λ bytes. bytes.items) records.now) reply.now) }
+        ≡ numeric_row thing.now conversion.now units.now (map (λ name. name.items) names.now) reply.now) }
 {
     let what = what_cell(alloc, thing)?;
-    let name = name_cell(alloc, thing, 0, records)?;
+    let name = name_at(alloc, names, 0)?;
     let value = numeric_value(alloc, conversion, units, reply)?;
     let state = numeric_state(alloc, thing, reply)?;
     Ok(Row::new(what, name, value, state))
@@ -179,14 +162,14 @@ fn push_state_rows(
     alloc: Global,
     thing: &Thing,
     sets: &[PossibleStates],
-    records: &[Vec<u8>],
+    names: &[Vec<u8>],
     message: Option<&[u8]>,
 ) -> Result<(), Memory>
     ensures { OnOk result (rows.new.items ≡ rows.old.items ++ state_rows thing.now sets.now
-        (map (λ bytes. bytes.items) records.now) (option_map (λ bytes. bytes.now) message.entry)) }
+        (map (λ name. name.items) names.now) (option_map (λ bytes. bytes.now) message.entry)) }
 {
     let reply = reply_to(&thing.state_command(), message);
-    push_field_rows(rows, alloc, thing, sets, records, &reply)
+    push_field_rows(rows, alloc, thing, sets, names, &reply)
 }
 
 /// Adds a row for each field.
@@ -195,15 +178,15 @@ fn push_field_rows(
     alloc: Global,
     thing: &Thing,
     sets: &[PossibleStates],
-    records: &[Vec<u8>],
+    names: &[Vec<u8>],
     reply: &Reply,
 ) -> Result<(), Memory>
     ensures { OnOk result (rows.new.items ≡ rows.old.items
-        ++ field_rows thing.now (length sets.now) 0 sets.now (map (λ bytes. bytes.items) records.now) reply.now) }
+        ++ field_rows thing.now (length sets.now) 0 sets.now (map (λ name. name.items) names.now) reply.now) }
 {
     for place in 0..sets.len() {
         let reading = state_reading(sets.len(), place, reply);
-        let row = field_row(alloc, thing, place, &sets[place], records, reply, &reading)?;
+        let row = field_row(alloc, thing, place, &sets[place], names, reply, &reading)?;
         rows.push(row)?;
     }
     Ok(())
@@ -215,16 +198,16 @@ fn field_row(
     thing: &Thing,
     place: usize,
     states: &PossibleStates,
-    records: &[Vec<u8>],
+    names: &[Vec<u8>],
     reply: &Reply,
     reading: &Option<StateReading>,
 ) -> Result<Row, Memory>
     ensures { IfOk result (λ row. row
-        ≡ cells (what_text thing.now) (name_cell thing.now place (map (λ bytes. bytes.items) records.now))
+        ≡ cells (what_text thing.now) (name_at (map (λ name. name.items) names.now) place)
         (field_value states.now reading.now) (field_state thing.now reply.now reading.now)) }
 {
     let what = what_cell(alloc, thing)?;
-    let name = name_cell(alloc, thing, place, records)?;
+    let name = name_at(alloc, names, place)?;
     let value = field_value(alloc, states, reading)?;
     let state = field_state(alloc, thing, reply, reading)?;
     Ok(Row::new(what, name, value, state))

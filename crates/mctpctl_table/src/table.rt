@@ -1,16 +1,17 @@
 //! The table of a device's sensors and effecters: rows added from records and answers, and printed.
 
-ghost use Rattle.std.specs.Prelude.{◌≡◌, ◌++◌, [], OnErr, OnOk, map, option_map};
+ghost use Rattle.std.specs.Prelude.{◌≡◌, ◌++◌, [], OnErr, OnOk, Some, option_map};
 ghost use Rattle.mctpctl_table.specs.Logs.{log_text};
 ghost use Rattle.mctpctl_table.specs.Marks.{marked_text};
-ghost use Rattle.mctpctl_table.specs.Rows.{rows_of};
+ghost use Rattle.mctpctl_table.specs.Rows.{rows_by};
 ghost use Rattle.mctpctl_table.specs.Tables.{table_text};
 
 use crate::columns::push_rows;
+use crate::described::Described;
 use crate::log::push_log_lines;
 use crate::marks::push_marked_rows;
 use crate::row::Row;
-use crate::rows::push_rows_of;
+use crate::rows::push_data_rows;
 use mctp_packet::Memory;
 use std::alloc::Global;
 use std::marker::Model;
@@ -42,22 +43,22 @@ impl Table {
         }
     }
 
-    /// Adds the rows of the sensor or effecter that a record describes (its bytes with its header), none where it
-    /// describes none. Its names are looked for among `records`, and `message` is the whole response that came to
-    /// GetSensorReading, GetStateSensorReadings, GetNumericEffecterValue or GetStateEffecterStates. Out of memory
-    /// leaves the table as it was.
-    pub fn add(
-        &mut self,
-        record: &[u8],
-        records: &[Vec<u8>],
-        message: Option<&[u8]>,
-    ) -> Result<(), Memory>
-        ensures ok { OnOk result (self.new ≡ self.old ++ rows_of record.now
-            (map (λ bytes. bytes.items) records.now) (option_map (λ bytes. bytes.now) message.entry)) }
+    /// Adds the rows of the sensor or effecter that a record describes, none where it describes none. `message` is the
+    /// whole response that came to GetSensorReading, GetStateSensorReadings, GetNumericEffecterValue or
+    /// GetStateEffecterStates. Out of memory leaves the table as it was.
+    pub fn add(&mut self, described: &Described, message: Option<&[u8]>) -> Result<(), Memory>
+        ensures ok { OnOk result (self.new
+            ≡ self.old ++ rows_by (Some described.now) (option_map (λ bytes. bytes.now) message.entry)) }
         ensures err { OnErr result (self.new ≡ self.old) }
     {
         let mut rows = Vec::new(self.alloc);
-        push_rows_of(&mut rows, self.alloc, record, records, message)?;
+        push_data_rows(
+            &mut rows,
+            self.alloc,
+            described.contents(),
+            described.names(),
+            message,
+        )?;
         self.rows.append(&mut rows)?;
         Ok(())
     }

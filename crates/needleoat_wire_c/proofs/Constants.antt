@@ -1,5 +1,6 @@
 -- The constants of the source that definitions take, written a second time.
 use Rattle.std.proofs.Common.{◌≡◌, refl}
+use Rattle.needleoat_wire_c.specs.declared.bus_forms.TheConstants.{NOT_AN_ADDRESS}
 use Rattle.needleoat_wire_c.specs.declared.record_forms.TheConstants.{NAME_UNITS, STATE_BYTES}
 use Rattle.needleoat_wire_c.specs.declared.record_writing.TheConstants.{NO_RECORD}
 use Rattle.needleoat_wire_c.specs.declared.records_answer.TheConstants.{NO_RECORDS, OTHER_COMMAND}
@@ -18,3 +19,6 @@ other_command = refl
 
 no_records : NO_RECORDS ≡ 2
 no_records = refl
+
+not_an_address : NOT_AN_ADDRESS ≡ 255
+not_an_address = refl

@@ -1,6 +1,6 @@
 //! The rows that the table has for sensors and effecters, laid out in columns.
 
-use mctpctl_table::Table;
+use mctpctl_table::{Described, Table};
 use std::alloc::Global;
 use std::process::Abort;
 
@@ -59,11 +59,24 @@ fn add(rt: &impl Abort, alloc: Global, table: &mut Table, record: &str, message:
     match message {
         Some(message) => {
             let message = bytes(rt, alloc, message);
-            table
-                .add(&record, &records, Some(&message))
-                .expect(rt, "memory");
+            add_bytes(rt, alloc, table, &record, &records, Some(&message));
         }
-        None => table.add(&record, &records, None).expect(rt, "memory"),
+        None => add_bytes(rt, alloc, table, &record, &records, None),
+    }
+}
+
+/// Adds what a record's bytes describe, with its names among these records, and what came for it.
+fn add_bytes(
+    rt: &impl Abort,
+    alloc: Global,
+    table: &mut Table,
+    record: &[u8],
+    records: &[Vec<u8>],
+    message: Option<&[u8]>,
+) {
+    let read = Described::read(alloc, record, records).expect(rt, "memory");
+    if let Some(described) = read {
+        table.add(&described, message).expect(rt, "memory");
     }
 }
 
@@ -194,7 +207,7 @@ fn add_in_units(rt: &impl Abort, alloc: Global, table: &mut Table, units: &str) 
     );
     record.append(&mut more).expect(rt, "memory");
     let reading = bytes(rt, alloc, "0100021100020000010101f401");
-    table.add(&record, &[], Some(&reading)).expect(rt, "memory");
+    add_bytes(rt, alloc, table, &record, &[], Some(&reading));
 }
 
 /// A base unit and a rate are shown; what a record says beyond that makes a number raw.
@@ -241,7 +254,7 @@ fn names_of_two_termini(rt: HostRuntime) {
     }
     let record = bytes(&rt, rt.alloc(), FAN);
     let mut table = Table::new(rt.alloc());
-    table.add(&record, &records, None).expect(&rt, "memory");
+    add_bytes(&rt, rt.alloc(), &mut table, &record, &records, None);
     expect(&rt, rt.alloc(), &table, "sensor 1  Fan  -  no answer\n");
 }
 
@@ -264,7 +277,7 @@ fn long_names(rt: HostRuntime) {
     records.push(names).expect(&rt, "memory");
     let record = bytes(&rt, rt.alloc(), FAN);
     let mut table = Table::new(rt.alloc());
-    table.add(&record, &records, None).expect(&rt, "memory");
+    add_bytes(&rt, rt.alloc(), &mut table, &record, &records, None);
     let text = "\
 sensor 1  AAAAAAAAAAAAAAAAAAAAAAAAAAAAAAAAAAAAAAAAAAAAAAAAAAAAAAAAAAAAAAAAAAAAAAAA  -  no answer
 ";

@@ -7,7 +7,7 @@ use Rattle.mctpctl.specs.declared.talk.TheConstants.{DONE}
 use Rattle.mctpctl.proofs.asking.ask_each.Goals as goal
 
 pub loop-command-init : goal.loop-command-init
-loop-command-init g c = record { asked = refl; going = search rules }
+loop-command-init g c = record { asked = refl; range = search rules; going = search rules }
 
 pub loop-command-preserved : goal.loop-command-preserved
 loop-command-preserved g c =
@@ -19,6 +19,7 @@ loop-command-preserved g c =
           (asked_so (shown_in g.C.Ticks.to_come g.R.Read.remaining g.W.Write.contents c.loop-command.conversation) (printed_in g.O.Write.contents c.loop-command.conversation) c.loop-command.status)
           (asked_so (shown_in g.C.Ticks.to_come g.R.Read.remaining g.W.Write.contents c.ask_one.new.conversation) (printed_in g.O.Write.contents c.ask_one.new.conversation) c.max-status.result)
           c.in-Ok.one c.loop-command-test.true c.command-item.is i.asked c.in-Ok.ensures.asked c.max-status.ensures;
+      range = search rules;
       going = search rules;
     }
 

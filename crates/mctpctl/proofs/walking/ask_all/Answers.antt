@@ -6,8 +6,9 @@ use Rattle.mctpctl.proofs.walking.ask_all.Goals as goal
 
 pub loop-init : goal.loop-init
 loop-init g c = record {
-  walked = record { before = []; walked = refl };
+  walked = record { before = []; walked = (refl, refl) };
   count = refl;
+  range = search rules;
   going = search rules;
 }
 
@@ -18,15 +19,22 @@ loop-preserved g c =
     record {
       walked = record {
         before = mid ∷ c.loop.invariant.walked.before;
-        walked = (c.loop.invariant.walked.walked, subst (λ o. StepsOn o mid b) c.in-Some.is c.in-Ok.ensures.stepped);
+        walked = (
+          c.loop.status,
+          c.in-Some.one,
+          c.loop.invariant.walked.walked,
+          subst (λ o. StepsOn o mid b) c.in-Some.is c.in-Ok.ensures.stepped,
+          c.max-status.ensures,
+        );
       };
+      range = search rules;
       count = omega (arith, c.loop.invariant.count);
       going = search rules;
     }
 
 pub returns-in-Err-clause-stopped : goal.returns-in-Err-clause-stopped
 returns-in-Err-clause-stopped g c =
-    stopped_walking c.in-Err.fault
+    stopped_walking c.in-Err.fault c.loop.status
     (standing g.C.Ticks.to_come g.R.Read.remaining g.W.Write.contents g.O.Write.contents c.args.walk.now c.args.conversation.now)
     (standing g.C.Ticks.to_come g.R.Read.remaining g.W.Write.contents g.O.Write.contents c.loop.walk c.loop.conversation)
     (standing g.C.Ticks.to_come g.R.Read.remaining g.W.Write.contents g.O.Write.contents c.ask_next.new.walk c.ask_next.new.conversation)
@@ -38,6 +46,7 @@ returns-clause-stopped g c =
     inr (record {
       before = c.loop.invariant.walked.before;
       last = (standing g.C.Ticks.to_come g.R.Read.remaining g.W.Write.contents g.O.Write.contents c.loop.walk c.loop.conversation);
+      status = c.loop.status;
       walked = c.loop.invariant.walked.walked;
       reason = inr (refl, all);
     })

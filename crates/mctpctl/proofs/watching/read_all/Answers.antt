@@ -9,7 +9,8 @@ pub loop-place-preserved : goal.loop-place-preserved
 loop-place-preserved g c =
     let mid = shown g.C.Ticks.to_come g.R.Read.remaining g.W.Write.contents c.loop-place.line c.loop-place.reader c.loop-place.writer in
     record {
-      read = simp unary_clauses (mid, c.loop-place.table, c.loop-place.invariant.read, c.in-Ok.ensures.read);
+      read = simp unary_clauses (mid, c.loop-place.table, c.loop-place.status, c.in-Ok.one, c.loop-place.invariant.read, c.in-Ok.ensures.read, c.max-status.ensures);
+      range = search rules;
       reads = search rules;
       writes = search rules;
       end = ap length c.found-place-end.ensures;
@@ -21,4 +22,4 @@ returns-in-Err-clause-stopped g c =
     (shown g.C.Ticks.to_come g.R.Read.remaining g.W.Write.contents c.args.line.now c.args.reader.now c.args.writer.now)
     (shown g.C.Ticks.to_come g.R.Read.remaining g.W.Write.contents c.loop-place.line c.loop-place.reader c.loop-place.writer)
     (shown g.C.Ticks.to_come g.R.Read.remaining g.W.Write.contents c.read_one.new.line c.read_one.new.reader c.read_one.new.writer)
-    c.loop-place.table c.loop-place.invariant.read c.in-Err.ensures.stopped
+    c.loop-place.table c.loop-place.status c.loop-place.invariant.read c.in-Err.ensures.stopped
