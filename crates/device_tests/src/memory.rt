@@ -4,10 +4,10 @@ use crate::descriptions::example_text;
 use crate::expect::expect_eq;
 use crate::platforms::expect_example;
 use mctp_packet::Memory;
-use memory_hoard::Hoard;
 use pldm_device::{Description, FileFault};
 use std::alloc::{AllocError, Global};
 use std::process::Abort;
+use test_support::Hoard;
 
 /// How many bytes more there are after each refusal.
 const STEP: usize = 16;

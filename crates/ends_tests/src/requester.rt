@@ -4,11 +4,11 @@ ghost use Rattle.std.specs.Prelude.{◌≤◌};
 ghost use Rattle.pldm_requester.specs.Slots.{held_of};
 
 use mctp_packet::{Eid, Keep, Memory, Moment, Reason};
-use memory_hoard::Hoard;
 use pldm_requester::{Due, Got, OpenFault, Requester, Status, Timing, TimingFault};
 use pldm_wire::Command;
 use std::alloc::Global;
 use std::process::Abort;
+use test_support::Hoard;
 
 mod refused_growths;
 

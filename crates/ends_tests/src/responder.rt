@@ -1,14 +1,13 @@
 //! A responder by itself: what it performs, which answers it keeps, and what it refuses after a restart.
 
-use example_device::description;
 use lamp_board::Dimmer;
 use mctp_packet::{Eid, Keep, MAX_EID, MIN_EID, Memory, Moment, Reason};
-use memory_hoard::Hoard;
 use pldm_device::{Description, Platform, ReadingFault, SimDevice};
 use pldm_responder::{Outcome, Responder};
 use pldm_wire::INSTANCE_IDS;
 use std::alloc::Global;
 use std::process::Abort;
+use test_support::{Hoard, description};
 
 mod changes;
 mod refused_growths;

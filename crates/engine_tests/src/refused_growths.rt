@@ -3,11 +3,11 @@
 use crate::engines::{End, Engine, RUNS, is_front};
 use crate::fakes::{PieceWriter, TEXT_ROOM};
 use mctpctl_engines::Port;
-use memory_hoard::Hoard;
 use std::alloc::{AllocError, Global};
 use std::mem;
 use std::process::Abort;
 use std::test::Fail;
+use test_support::Hoard;
 
 /// How many bytes more there are after each refusal.
 const STEP: usize = 32;

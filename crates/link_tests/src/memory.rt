@@ -3,10 +3,10 @@
 use crate::runs::{RETRY, Row, TAG_USED_AGAIN, example, expect_run};
 use bumpalo::Bump;
 use mctp_schedule::{LineFaultKind, RunFault, Schedule, run};
-use memory_hoard::Hoard;
 use std::alloc::{AllocError, Global};
 use std::process::Abort;
 use std::test::Fail;
+use test_support::Hoard;
 
 /// How many bytes more a reading has after each refusal.
 const READING_STEP: usize = 16;

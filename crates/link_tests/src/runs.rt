@@ -2,7 +2,6 @@
 //! ends, are rows over the program: `tests/rows_worked.py`.
 
 use bumpalo::Bump;
-use example_device::description;
 use lamp_board::Lamp;
 use mctp_packet::{Eid, Keep};
 use mctp_schedule::{OpenedRequest, RunFault, Schedule, Setup, run};
@@ -12,6 +11,7 @@ use pldm_wire::Window;
 use std::alloc::{AllocError, Global};
 use std::process::Abort;
 use std::test::Fail;
+use test_support::description;
 
 /// The example device at endpoint 9, with a keeping time of a second and a window of all instance IDs.
 pub fn example(alloc: Global) -> Result<Setup<SimDevice>, Fail> {

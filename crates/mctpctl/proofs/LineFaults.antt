@@ -2,11 +2,11 @@
 use Rattle.std.proofs.Common.{◌≡◌, ◌≢◌, ◌⊎◌, ℕ, List, inl, inr, refl}
 use Rattle.mctpctl.specs.AskedTexts.{IsOfPrinting}
 use Rattle.mctpctl.specs.WatchedTexts.{ReadsFirst, StopsOne, StopsReading}
-use Rattle.mctpctl_ask.specs.Asked.{Shown}
+use Rattle.pldm_line.specs.Asked.{Shown}
 use Rattle.mctpctl_table.specs.Tables.{Cells}
 use Rattle.mctpctl_walk.specs.Walks.{Walking}
-use Rattle.mctpctl_ask.specs.declared.fault.AskFault.{AskFault}
-use Rattle.mctpctl_ask.specs.declared.fault.AskFault.TheVariants.{LineEnded, Read, Write, Clock, Memory, TooMany}
+use Rattle.pldm_line.specs.declared.ask_fault.AskFault.{AskFault}
+use Rattle.pldm_line.specs.declared.ask_fault.AskFault.TheVariants.{LineEnded, Read, Write, Clock, Memory, TooMany}
 
 pub stopped_or_printing : {P : Type 0} (fault : AskFault) → (fault ≢ Write → P) → IsOfPrinting fault ⊎ P
 stopped_or_printing LineEnded stops = inr (stops (λ (e : LineEnded ≡ Write). cc))

@@ -2,7 +2,7 @@
 use Rattle.std.proofs.Common.{◌≡◌, ◌⊎◌, ℕ, inl, inr, List}
 use Rattle.mctpctl.specs.WalkedTexts.{Standing, StopsNext, StopsWalking, Walked}
 use Rattle.mctpctl.specs.AskedTexts.{IsOfPrinting}
-use Rattle.mctpctl_ask.specs.declared.fault.AskFault.{AskFault}
+use Rattle.pldm_line.specs.declared.ask_fault.AskFault.{AskFault}
 
 -- so far
 pub record WalkedSo (status : ℕ) (a b : Standing) : Type 0 where

@@ -3,11 +3,11 @@ use Rattle.std.specs.Io.KnownBytes.{Appends}
 use Rattle.std.specs.Prelude.{◌≡◌, ◌⊎◌, ℕ, Bool, true, false, ◌==◌, List, [], ◌∷◌, ◌++◌, Option, None, Some}
 use Rattle.std.specs.List.{FoldsTo}
 use Rattle.std.specs.Prelude.{Result, Ok, Err, max, if◌then◌else◌}
-use Rattle.mctpctl_ask.specs.Asked.{Asks, Shown}
-use Rattle.mctpctl_ask.specs.Ends.{answer_of}
-use Rattle.mctpctl_ask.specs.declared.fault.AskFault.{AskFault}
-use Rattle.mctpctl_ask.specs.declared.fault.AskFault.TheVariants as faults
-use Rattle.mctpctl_ask.specs.declared.line.Ended.{Ended}
+use Rattle.pldm_line.specs.Asked.{Asks, Shown}
+use Rattle.pldm_line.specs.Ends.{answer_of}
+use Rattle.pldm_line.specs.declared.ask_fault.AskFault.{AskFault}
+use Rattle.pldm_line.specs.declared.ask_fault.AskFault.TheVariants as faults
+use Rattle.pldm_line.specs.declared.asking_line.Ended.{Ended}
 use Rattle.mctpctl_decode.specs.DecodedLines.{decoded_line}
 use Rattle.mctpctl_texts.specs.ShownLines.{data_text}
 use Rattle.pldm_wire.specs.Responses.{Response, response_of}

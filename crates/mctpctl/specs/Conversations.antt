@@ -1,6 +1,6 @@
 -- What a clause reads of a conversation.
 use Rattle.std.specs.Prelude.{◌≡◌, ℕ, false, List, Option}
-use Rattle.mctpctl_ask.specs.Asked.{Shown, shown}
+use Rattle.pldm_line.specs.Asked.{Shown, shown}
 use Rattle.mctpctl_input.specs.Ports.{has_failed, inner_of}
 use Rattle.mctpctl.specs.declared.conversation.Conversation.{Conversation}
 

@@ -3,8 +3,8 @@ use Rattle.std.specs.Prelude.{Option, None, Some}
 use Rattle.mctpctl_input.specs.OutsideFaults.{no_memory}
 use Rattle.mctpctl_input.specs.declared.faults.EngineFault.{EngineFault}
 use Rattle.mctpctl_input.specs.declared.faults.EngineFault.TheVariants as engine
-use Rattle.mctpctl_serve.specs.declared.fault.ServeFault.{ServeFault}
-use Rattle.mctpctl_serve.specs.declared.fault.ServeFault.TheVariants as line
+use Rattle.pldm_line.specs.declared.serve_fault.ServeFault.{ServeFault}
+use Rattle.pldm_line.specs.declared.serve_fault.ServeFault.TheVariants as line
 
 -- no engine reads a clock
 abbrev pub engine_fault_of : ServeFault → Option EngineFault

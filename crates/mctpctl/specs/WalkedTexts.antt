@@ -7,11 +7,11 @@ use Rattle.mctp_control.specs.Queries.{ControlQuery}
 use Rattle.mctp_control.specs.declared.assigned.TheConstants.{SUCCESS}
 use Rattle.mctp_control.specs.declared.command.Command.{Command as ControlCommand}
 use Rattle.mctp_control.specs.declared.command.Command.TheVariants as controls
-use Rattle.mctpctl_ask.specs.Asked.{AskStops, Shown}
-use Rattle.mctpctl_ask.specs.Ends.{answer_of}
-use Rattle.mctpctl_ask.specs.Queries.{AsksQuery}
-use Rattle.mctpctl_ask.specs.declared.fault.AskFault.{AskFault}
-use Rattle.mctpctl_ask.specs.declared.fault.AskFault.TheVariants.{TooMany}
+use Rattle.pldm_line.specs.Asked.{AskStops, Shown}
+use Rattle.pldm_line.specs.Ends.{answer_of}
+use Rattle.pldm_line.specs.Queries.{AsksQuery}
+use Rattle.pldm_line.specs.declared.ask_fault.AskFault.{AskFault}
+use Rattle.pldm_line.specs.declared.ask_fault.AskFault.TheVariants.{TooMany}
 use Rattle.mctpctl_decode.specs.RecordTexts.{record_lines}
 use Rattle.mctpctl_table.specs.Rows.{Described, described_of, rows_by}
 use Rattle.mctpctl_table.specs.Tables.{Cells, table_text}

@@ -1,10 +1,10 @@
 -- What `watch` asks and prints.
 use Rattle.std.specs.Fmt.{decimal}
 use Rattle.std.specs.Prelude.{◌≡◌, ℕ, zero, suc, List, [], ◌∷◌, ◌++◌, codes, length, max, slice_get, Option, Some}
-use Rattle.mctpctl_ask.specs.Asked.{AskStops, Asks, Shown}
-use Rattle.mctpctl_ask.specs.Ends.{answer_of}
-use Rattle.mctpctl_ask.specs.declared.fault.AskFault.{AskFault}
-use Rattle.mctpctl_ask.specs.declared.line.Ended.{Ended}
+use Rattle.pldm_line.specs.Asked.{AskStops, Asks, Shown}
+use Rattle.pldm_line.specs.Ends.{answer_of}
+use Rattle.pldm_line.specs.declared.ask_fault.AskFault.{AskFault}
+use Rattle.pldm_line.specs.declared.asking_line.Ended.{Ended}
 use Rattle.mctpctl_table.specs.Rows.{rows_by}
 use Rattle.mctpctl_table.specs.Marks.{marked_text}
 use Rattle.mctpctl_table.specs.Tables.{Cells}

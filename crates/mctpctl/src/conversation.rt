@@ -2,8 +2,8 @@
 
 ghost use Rattle.std.specs.Prelude.{◌≡◌};
 
-use mctpctl_ask::AskingLine;
 use mctpctl_input::Port;
+use pldm_line::AskingLine;
 
 /// What a requester on a line reads, writes and prints.
 #[derive(Drop)]

@@ -5,7 +5,7 @@ ghost use Rattle.mctpctl.specs.LineFaults.{engine_fault_of};
 ghost use Rattle.mctpctl_input.specs.Statuses.{status_of_fault};
 
 use mctpctl_input::{EngineFault, fault_line, status_of};
-use mctpctl_serve::ServeFault;
+use pldm_line::ServeFault;
 use std::alloc::AllocError;
 
 /// Prints the line of a fault on standard error, and returns its exit status. Where there is no memory for the line,

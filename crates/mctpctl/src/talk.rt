@@ -3,7 +3,7 @@
 ghost use Rattle.std.specs.Prelude.{◌≡◌, ◌≤◌, IfErr, IfOk, OnOk, Some};
 ghost use Rattle.mctpctl.specs.Settings.{settings_in};
 ghost use Rattle.mctpctl.specs.States.{settling_in};
-ghost use Rattle.mctpctl_ask.specs.Asked.{Listens, begun_as, shown};
+ghost use Rattle.pldm_line.specs.Asked.{Listens, begun_as, shown};
 ghost use Rattle.mctpctl_command_line.specs.Choice.{linked};
 ghost use Rattle.mctpctl_input.specs.Ports.{BothWork};
 
@@ -14,9 +14,9 @@ use crate::settings::{Periods, Settings, settings_of};
 use crate::state::{Earlier, StateFault, begin_state, end_state, settling_time};
 use crate::walking::walk_device;
 use crate::watching::watch_device;
-use mctpctl_ask::{AskFault, AskingLine, BeginFault, SystemTicks, Ticks, begin_after};
 use mctpctl_command_line::{Link, Question, TRY_HELP, WalkOptions, WatchOptions};
 use mctpctl_input::Port;
+use pldm_line::{AskFault, AskingLine, BeginFault, SystemTicks, Ticks, begin_after};
 use std::alloc::Global;
 use std::fs::{File, OpenOptions};
 use std::io::{Read, Write};

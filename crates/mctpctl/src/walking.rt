@@ -6,7 +6,7 @@ ghost use Rattle.mctp_control.specs.declared.assigned.TheConstants.{INSTANCE_IDS
 ghost use Rattle.mctpctl.specs.AskedTexts.{IsOfPrinting};
 ghost use Rattle.mctpctl.specs.Conversations.{IsGoingOn, printed_in, shown_in};
 ghost use Rattle.mctpctl.specs.WalkedTexts.{AsksEndpoint, StepsOn, StopsNext, StopsWalking, ReportsQuery, WalksDevice, WalksThrough, described_at, goes_on, query_of, record_text, status_of_query, rows_at, standing, walk_text, walked_rows};
-ghost use Rattle.mctpctl_ask.specs.Queries.{StopsQuery};
+ghost use Rattle.pldm_line.specs.Queries.{StopsQuery};
 ghost use Rattle.mctpctl_input.specs.Ports.{inner_of};
 
 use crate::asking::{ask_command, print_message, print_text, status_of_answer};
@@ -15,13 +15,13 @@ use crate::settings::Settings;
 use crate::talk::{DONE, Errand, FAILED, REFUSED, do_errand, read_settings};
 use mctp_control::{Command as ControlCommand, Query, SUCCESS, read_response};
 use mctp_packet::{Memory, Tag};
-use mctpctl_ask::{AskFault, Ticks, ask_control};
 use mctpctl_command_line::WalkOptions;
 use mctpctl_decode::push_record;
 use mctpctl_input::Port;
 use mctpctl_table::{Described, Table};
 use mctpctl_texts::write_text;
 use mctpctl_walk::Walk;
+use pldm_line::{AskFault, Ticks, ask_control};
 use pldm_wire::{Command, GET_NEXT_PART};
 use std::alloc::Global;
 use std::fs;

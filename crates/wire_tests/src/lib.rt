@@ -1,4 +1,6 @@
-//! Tests of packets, of messages of several packets, and of PLDM messages, over public calls.
+//! Tests of packets, also on SMBus and I3C (each PEC in them comes from another program), of messages of several
+//! packets, of PLDM messages, and of platform data records (bytes that were written by hand from the standard's
+//! layouts), over public calls.
 #![tactic(auto)]
 
 #[cfg(test)]
@@ -6,6 +8,16 @@ mod assembly;
 #[cfg(test)]
 mod expect;
 #[cfg(test)]
+mod i3c;
+#[cfg(test)]
 mod messages;
 #[cfg(test)]
+mod numeric_records;
+#[cfg(test)]
 mod packets;
+#[cfg(test)]
+mod record_faults;
+#[cfg(test)]
+mod records;
+#[cfg(test)]
+mod smbus;

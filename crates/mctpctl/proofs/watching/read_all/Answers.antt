@@ -2,7 +2,7 @@
 use native.Mathlib.Numerals.{unary_clauses}
 use Rattle.std.proofs.Common.{ap, length, rules}
 use Rattle.mctpctl.proofs.LineFaults.{stopped_reading}
-use Rattle.mctpctl_ask.specs.Asked.{shown}
+use Rattle.pldm_line.specs.Asked.{shown}
 use Rattle.mctpctl.proofs.watching.read_all.Goals as goal
 
 pub loop-place-preserved : goal.loop-place-preserved

@@ -2,7 +2,7 @@
 use Rattle.std.proofs.Common.{◌≡◌, ◌≤◌, false, length}
 use Rattle.mctpctl.specs.WatchedTexts.{ReadsFirst}
 use Rattle.mctpctl.specs.declared.talk.TheConstants.{FAILED}
-use Rattle.mctpctl_ask.specs.Asked.{shown}
+use Rattle.pldm_line.specs.Asked.{shown}
 use Rattle.mctpctl.proofs.watching.read_all.Given as goal
 
 abbrev pub invariant-loop-place : goal.invariant-loop-place

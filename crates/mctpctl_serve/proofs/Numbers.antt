@@ -1,6 +1,0 @@
--- Every constant of the source, written a second time.
-use Rattle.std.proofs.Common.{◌≡◌, refl}
-use Rattle.mctpctl_serve.specs.declared.TheConstants.{MAX_ANSWER_BYTES}
-
-answer_bytes : MAX_ANSWER_BYTES ≡ 710
-answer_bytes = refl

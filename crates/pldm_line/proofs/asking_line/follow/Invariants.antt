@@ -1,0 +1,16 @@
+-- Turns were taken meanwhile.
+use Rattle.std.proofs.Common.{◌≡◌, false, true, length}
+use Rattle.pldm_line.specs.Asked.{Goes, shown}
+use Rattle.pldm_line.specs.Ends.{IsWaiting}
+use Rattle.pldm_line.proofs.asking_line.follow.Given as goal
+
+abbrev pub invariant-loop : goal.invariant-loop
+invariant-loop g l = record {
+  goes : Goes (IsWaiting l.number)
+      (shown g.C.Ticks.to_come g.R.Read.remaining g.W.Write.contents l.initial.line l.initial.reader l.initial.writer)
+      (shown g.C.Ticks.to_come g.R.Read.remaining g.W.Write.contents l.line l.reader l.writer);
+  count : length goes.turns ≡ l.counter;
+  flushed : l.initial.writer.flushed ≡ true → l.writer.flushed ≡ true;
+  reads : l.reader.failed ≡ false;
+  writes : l.writer.failed ≡ false;
+}

@@ -1,0 +1,15 @@
+pub mod AskFaults
+pub mod Asked
+pub mod Clocks
+pub mod Ends
+pub mod Events
+pub mod Heard
+pub mod Laws
+pub mod Logs
+pub mod Queries
+pub mod QueryTries
+pub mod QueryTurns
+pub mod Seen
+pub mod ServeFaults
+pub mod Serving
+pub mod Turns
