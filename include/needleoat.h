@@ -90,7 +90,7 @@ enum needleoat_reason {
     NEEDLEOAT_NO_PAYLOAD = 5,          /* it has no payload */
     NEEDLEOAT_UNSUPPORTED_UNIT = 6,    /* its payload has more than 64 bytes */
     NEEDLEOAT_BAD_TAG = 7,             /* at a device TO is 0; at a requester TO is 1, or no open request has it */
-    NEEDLEOAT_UNEXPECTED_PACKET = 8,   /* a middle or end packet where no message is in progress */
+    NEEDLEOAT_UNEXPECTED_MIDDLE_OR_END = 8,   /* a middle or end packet where no message is in progress */
     NEEDLEOAT_OUT_OF_SEQUENCE = 9,     /* its number is not the last one plus 1 modulo 4 */
     NEEDLEOAT_TOO_LONG = 10,           /* 5 packets of the message are there already */
     NEEDLEOAT_WRONG_UNIT = 11,         /* a middle packet of another length than the first, or a longer end */

@@ -19,7 +19,7 @@ use Rattle.pldm_responder.specs.ResponderStates.{ResponderState}
 use Rattle.pldm_responder.specs.Performing.{Task}
 use Rattle.pldm_responder.specs.Steps.{arrival_held, received_arrival}
 use Rattle.pldm_wire.specs.HandingOn.{hands_on}
-use Rattle.pldm_wire.specs.declared.handed_on.HandedOn.{HandedOn}
+use Rattle.pldm_wire.specs.declared.pass_through.PassThrough.{PassThrough}
 use Rattle.bus_endpoint.specs.BusViews.{HaveOneEid}
 use Rattle.bus_endpoint.specs.Coming.{IsAssigned, IsInStep, control_after, eid_in}
 
@@ -28,7 +28,7 @@ kept_by_own : {S : Type 0} (tasks : List Task) (m : Message) (answered held : Re
 kept_by_own [] m answered held same = same
 kept_by_own (task ∷ tasks) m answered held same = refl
 
-stepped_own : (handed : HandedOn) (held : ResponderState (Unit {0})) (a : Arrival) → (stepped handed held a).own ≡ held.own
+stepped_own : (handed : PassThrough) (held : ResponderState (Unit {0})) (a : Arrival) → (stepped handed held a).own ≡ held.own
 stepped_own handed held (Drop reason) = refl
 stepped_own handed held Part = refl
 stepped_own handed held (Whole m) =

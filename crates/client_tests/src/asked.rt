@@ -1,6 +1,6 @@
 //! One request: when its frames go out, and how it ends.
 
-use crate::lines::{NOTHING, Outcome, Question, expect_end, run_line};
+use crate::lines::{AskedOf, NOTHING, Outcome, expect_end, run_line};
 use mctp_serial::frame;
 use pldm_line::{AskFault, Ended};
 use std::alloc::Global;
@@ -21,7 +21,7 @@ const MESSAGE: &[u8] = &[0x01, 0x00, 0x00, 0x02, 0x00, 0x01];
 
 /// Asks for the terminus ID over a line of these pieces.
 fn run(rt: &impl Abort, alloc: Global, pieces: &[&[u8]], readings: &[u64]) -> Outcome {
-    run_line(rt, alloc, &Question::Command, pieces, readings)
+    run_line(rt, alloc, &AskedOf::Command, pieces, readings)
 }
 
 #[test]

@@ -34,7 +34,7 @@ pub const NOTHING: &[u8] = &[];
 
 /// What is asked.
 #[derive(Drop)]
-pub enum Question<'a> {
+pub enum AskedOf<'a> {
     /// The command GetTID.
     Command,
     /// A control query, in so many tries of 100 ms each.
@@ -89,7 +89,7 @@ fn settled_clock(rt: &impl Abort, alloc: Global, readings: &[u64]) -> Vec<u64> {
 pub fn run_line(
     rt: &impl Abort,
     alloc: Global,
-    question: &Question<'_>,
+    question: &AskedOf<'_>,
     pieces: &[&[u8]],
     readings: &[u64],
 ) -> Outcome {
@@ -113,7 +113,7 @@ pub fn run_line(
         &mut writer,
     ) {
         Ok(mut line) => match question {
-            Question::Command => {
+            AskedOf::Command => {
                 match ask(&mut line, &Command::GetTid, &mut reader, &mut writer) {
                     Ok(Asked { number, ended }) => {
                         if let Some(message) = line.answer(number) {
@@ -124,7 +124,7 @@ pub fn run_line(
                     Err(fault) => Err(fault),
                 }
             }
-            Question::Query { query, tries } => {
+            AskedOf::Query { query, tries } => {
                 match ask_control(&mut line, query, 100, *tries, &mut reader, &mut writer) {
                     Ok(Some(message)) => {
                         answer.extend_from_slice(&message).expect(rt, "memory");

@@ -1,6 +1,6 @@
 //! One control query: when its frame goes out, and which answer is believed.
 
-use crate::lines::{NOTHING, Outcome, Question, ends, expect_end, run_line};
+use crate::lines::{AskedOf, NOTHING, Outcome, ends, expect_end, run_line};
 use mctp_control::{Command, Query};
 use mctp_packet::Tag;
 use mctp_serial::frame;
@@ -28,7 +28,7 @@ fn run(rt: &impl Abort, alloc: Global, tries: u8, pieces: &[&[u8]], readings: &[
     let (own, device) = ends(rt);
     let tag = Tag::new(2).expect(rt, "a tag");
     let query = Query::new(own, device, tag, 5, Command::GetEndpointId);
-    let question = Question::Query {
+    let question = AskedOf::Query {
         query: &query,
         tries,
     };

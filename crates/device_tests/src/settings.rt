@@ -3,27 +3,30 @@
 use crate::descriptions::{changed, in_front};
 use crate::expect::expect_eq;
 use pldm_device::{Description, FileFault};
-use pldm_wire::{BusyTime, HandedOn};
+use pldm_wire::{PassThrough, RestartPolicy};
 use std::alloc::Global;
 
 /// The window and the busy time, or a fault.
-type Settings = Result<(u8, BusyTime), FileFault>;
+type Settings = Result<(u8, RestartPolicy), FileFault>;
 
 /// Lines in front of the example, and what it then says.
 const ROWS: &[(&str, Settings)] = &[
-    ("", Ok((32, BusyTime::All))),
-    ("window = 1\n", Ok((1, BusyTime::All))),
-    ("window = 32\n", Ok((32, BusyTime::All))),
+    ("", Ok((32, RestartPolicy::All))),
+    ("window = 1\n", Ok((1, RestartPolicy::All))),
+    ("window = 32\n", Ok((32, RestartPolicy::All))),
     ("window = 0\n", Err(FileFault::OutOfRange)),
     ("window = 33\n", Err(FileFault::OutOfRange)),
     ("window = '1'\n", Err(FileFault::WrongKind)),
-    ("busy = 'all'\n", Ok((32, BusyTime::All))),
-    ("busy = 'sets'\n", Ok((32, BusyTime::Sets(HandedOn::NONE)))),
+    ("busy = 'all'\n", Ok((32, RestartPolicy::All))),
+    (
+        "busy = 'sets'\n",
+        Ok((32, RestartPolicy::Sets(PassThrough::NONE))),
+    ),
     ("busy = 'none'\n", Err(FileFault::OutOfRange)),
     ("busy = 3\n", Err(FileFault::WrongKind)),
     (
         "busy = 'sets'\nwindow = 2\n",
-        Ok((2, BusyTime::Sets(HandedOn::NONE))),
+        Ok((2, RestartPolicy::Sets(PassThrough::NONE))),
     ),
     ("busy = 3\nwindow = 33\n", Err(FileFault::OutOfRange)),
 ];

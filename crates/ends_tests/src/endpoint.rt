@@ -2,8 +2,8 @@
 
 use mctp_packet::{Eid, Keep, Moment, Reason};
 use pldm_endpoint::{AnswerRefusal, CommandHandle, Endpoint, ReceiveRefusal, Step};
-use pldm_responder::{Bounds, Keeping, Outcome};
-use pldm_wire::{Answer, Command, HandedOn};
+use pldm_responder::{Bounds, Outcome, ResponderSettings};
+use pldm_wire::{Answer, Command, PassThrough};
 use std::alloc::Global;
 use std::process::Abort;
 use test_support::Hoard;
@@ -134,8 +134,8 @@ fn bounded(
         sources,
         open_messages,
     };
-    let keeping = Keeping::each_for(keep);
-    Endpoint::new(alloc, own, keeping, HandedOn::NONE, bounds, commands)
+    let keeping = ResponderSettings::each_for(keep);
+    Endpoint::new(alloc, own, keeping, PassThrough::NONE, bounds, commands)
 }
 
 /// Endpoint 9, with at most one message open.

@@ -5,7 +5,7 @@ use Rattle.std.specs.Ordering.{eq_by_cmp}
 use Rattle.pldm_wire.specs.HandingOn.{hands_on}
 use Rattle.pldm_wire.specs.Requests.{Request}
 use Rattle.pldm_wire.specs.declared.command.Command.{Command}
-use Rattle.pldm_wire.specs.declared.handed_on.HandedOn.{HandedOn}
+use Rattle.pldm_wire.specs.declared.pass_through.PassThrough.{PassThrough}
 use Rattle.pldm_responder.specs.Arrivals.{Arrival, Drop, Part, Whole}
 use Rattle.pldm_responder.specs.Asked.{Given, gives, listed}
 use Rattle.pldm_responder.specs.Events.{Message}
@@ -70,7 +70,7 @@ pending_under : (handle : CommandHandle) (step : Step) (pending : PendingCommand
 pending_under handle step pending tasks (inl is) asked = (subst (λ s. IsAskedBy s pending tasks) is asked).0
 pending_under handle step pending tasks (inr is) asked = (subst (λ s. IsAskedBy s pending tasks) is asked).0
 
-module _ (handed : HandedOn) (held : ResponderState (Unit {0})) where
+module _ (handed : PassThrough) (held : ResponderState (Unit {0})) where
   -- an arrival that has nothing performed leaves what a responder leaves
   stepped_done : (a : Arrival) → arrival_tasks handed held a ≡ [] → stepped handed held a ≡ arrival_held (gives (hands_on handed) unasked) held a
   stepped_done (Drop reason) none = refl

@@ -9,7 +9,7 @@ mod service;
 ghost use Rattle.std.specs.FinMap as map;
 ghost use Rattle.std.specs.Prelude.{◌≡◌};
 ghost use Rattle.pldm_wire.specs.declared.assigned.TheConstants.{INSTANCE_IDS};
-ghost use Rattle.pldm_wire.specs.declared.busy_time.BusyTime.TheVariants.{All};
+ghost use Rattle.pldm_wire.specs.declared.restart_policy.RestartPolicy.TheVariants.{All};
 ghost use Rattle.pldm_endpoint.specs.TwoSteps.{held_in};
 ghost use Rattle.pldm_responder.specs.ResponderStates.{IsHeld, held_at_first};
 
@@ -18,8 +18,8 @@ use crate::packet_line::{LineFault, TimedPacket, read_line};
 use crate::service::serve;
 use mctp_packet::{Eid, Keep};
 use pldm_endpoint::Endpoint;
-use pldm_responder::{Bounds, Keeping, Outcome};
-use pldm_wire::HandedOn;
+use pldm_responder::{Bounds, Outcome, ResponderSettings};
+use pldm_wire::PassThrough;
 use std::alloc::Global;
 
 /// The endpoint ID of the board.
@@ -38,7 +38,7 @@ const BOUNDS: Bounds = Bounds {
 const COMMANDS: usize = 1;
 
 /// The requests of PLDM type 63 (OEM) are handed on to the board as bytes.
-const OEM: HandedOn = HandedOn {
+const OEM: PassThrough = PassThrough {
     pldm_types: 1 << 63,
     unknown_commands: false,
 };
@@ -69,7 +69,7 @@ fn new_endpoint(alloc: Global) -> Endpoint
     Endpoint::new(
         alloc,
         Some(own),
-        Keeping::each_for(keep),
+        ResponderSettings::each_for(keep),
         OEM,
         BOUNDS,
         COMMANDS,

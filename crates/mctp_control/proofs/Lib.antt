@@ -1,7 +1,7 @@
 pub mod Cells
 pub mod DroppedReplies
 pub mod Examples
-pub mod HandedOn
+pub mod PassThrough
 pub mod KeptOnce
 pub mod Numbers
 pub mod Queried

@@ -6,8 +6,8 @@ use Rattle.mctp_i2c.specs.SmbusFrames as smbus
 use Rattle.mctp_i2c.specs.SmbusReadings as smbus_readings
 use Rattle.mctp_i2c.specs.I3cFrames as i3c
 use Rattle.mctp_i2c.specs.I3cReadings as i3c_readings
-use Rattle.mctp_i2c.specs.declared.smbus.FrameFault.TheVariants as faults
-use Rattle.mctp_i2c.specs.declared.i3c.FrameFault.TheVariants as i3c_faults
+use Rattle.mctp_i2c.specs.declared.smbus.SmbusFault.TheVariants as faults
+use Rattle.mctp_i2c.specs.declared.i3c.I3cFault.TheVariants as i3c_faults
 use Rattle.mctp_i2c.specs.declared.i3c.Direction.TheVariants.{Write, Read}
 
 abbrev a_packet : List ℕ

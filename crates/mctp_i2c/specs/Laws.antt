@@ -8,7 +8,7 @@ use Rattle.mctp_i2c.specs.SmbusReadings as smbus_readings
 use Rattle.mctp_i2c.specs.I3cFrames as i3c
 use Rattle.mctp_i2c.specs.I3cReadings as i3c_readings
 use Rattle.mctp_i2c.specs.declared.i3c.Direction.{Direction}
-use Rattle.mctp_i2c.specs.declared.i3c.FrameFault.TheVariants.{WrongPec}
+use Rattle.mctp_i2c.specs.declared.i3c.I3cFault.TheVariants.{WrongPec}
 
 -- what is framed is read back, with the address that it comes from
 abbrev pub SmbusReadsBack : Type 0

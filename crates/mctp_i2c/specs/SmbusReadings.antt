@@ -8,9 +8,9 @@ use Rattle.mctp_i2c.specs.Refusals.{first_failing, unless, front, last}
 use Rattle.mctp_i2c.specs.SmbusFrames.{frame}
 use Rattle.mctp_i2c.specs.declared.TheConstants.{MIN_SMBUS_ADDRESS, MAX_SMBUS_ADDRESS}
 use Rattle.mctp_i2c.specs.declared.smbus.TheConstants.{COMMAND_CODE, FRAME_HEADER, MIN_FRAME_BYTES}
-use Rattle.mctp_i2c.specs.declared.smbus.FrameFault.{FrameFault}
-use Rattle.mctp_i2c.specs.declared.smbus.FrameFault.TheVariants.{Short, NotOurs, OtherCommand, WrongCount}
-use Rattle.mctp_i2c.specs.declared.smbus.FrameFault.TheVariants.{NotSource, WrongPec}
+use Rattle.mctp_i2c.specs.declared.smbus.SmbusFault.{SmbusFault}
+use Rattle.mctp_i2c.specs.declared.smbus.SmbusFault.TheVariants.{Short, NotOurs, OtherCommand, WrongCount}
+use Rattle.mctp_i2c.specs.declared.smbus.SmbusFault.TheVariants.{NotSource, WrongPec}
 
 -- where a packet comes from, and its bytes
 pub record Received : Type 0 where
@@ -33,7 +33,7 @@ is_address n = nat_le MIN_SMBUS_ADDRESS n && nat_le n MAX_SMBUS_ADDRESS
 abbrev pub source_in : ℕ → Option ℕ
 source_in byte = if byte % 2 == 1 && is_address (byte / 2) then Some (byte / 2) else None
 
-abbrev pub checks : ℕ → List ℕ → List (Bool × FrameFault)
+abbrev pub checks : ℕ → List ℕ → List (Bool × SmbusFault)
 checks own bytes =
     (nat_lt (length bytes) MIN_FRAME_BYTES, Short)
     ∷ (not (slice_index bytes 0 == own * 2), NotOurs)
@@ -44,11 +44,11 @@ checks own bytes =
     ∷ []
 
 -- the first fault of the bytes, in the order of this list
-abbrev pub refusal : ℕ → List ℕ → Option FrameFault
+abbrev pub refusal : ℕ → List ℕ → Option SmbusFault
 refusal own bytes = first_failing (checks own bytes)
 
 abbrev pub received_in : List ℕ → Received
 received_in bytes = received (slice_index bytes 3 / 2) (drop FRAME_HEADER (front bytes))
 
-abbrev pub reading : ℕ → List ℕ → Result Received FrameFault
+abbrev pub reading : ℕ → List ℕ → Result Received SmbusFault
 reading own bytes = unless (refusal own bytes) (received_in bytes)

@@ -34,21 +34,21 @@ pub enum Direction {
 
 /// Why bytes are no frame of a packet.
 #[derive(Clone, Copy, Debug, PartialEq, Eq)]
-pub enum FrameFault {
+pub enum I3cFault {
     /// 1: fewer than [`MIN_FRAME_BYTES`].
     Short,
     /// 2: a PEC other than that of the address byte and the bytes before it.
     WrongPec,
 }
 
-impl FrameFault {
+impl I3cFault {
     /// Its number in this crate's list, 1 or 2, which is the order in which they are looked for.
     pub fn number(self) -> u8
         ensures { result ≡ number_of self }
     {
         match self {
-            FrameFault::Short => 1,
-            FrameFault::WrongPec => 2,
+            I3cFault::Short => 1,
+            I3cFault::WrongPec => 2,
         }
     }
 
@@ -57,8 +57,8 @@ impl FrameFault {
         ensures { result.now ≡ name_of self }
     {
         match self {
-            FrameFault::Short => "Short",
-            FrameFault::WrongPec => "WrongPec",
+            I3cFault::Short => "Short",
+            I3cFault::WrongPec => "WrongPec",
         }
     }
 }
@@ -84,11 +84,7 @@ pub fn frame(
 /// The packet whose frame these bytes are, in a transfer to or from the target of this address; or the first
 /// reason for which they are none: `Short`, `WrongPec` (DSP0233). The packet is the slice of the bytes that were
 /// read, and has no upper limit here.
-pub fn read(
-    address: DynamicAddress,
-    direction: Direction,
-    bytes: &[u8],
-) -> Result<&[u8], FrameFault>
+pub fn read(address: DynamicAddress, direction: Direction, bytes: &[u8]) -> Result<&[u8], I3cFault>
     ensures found { IfOk result (λ packet. IsFrameOf address direction packet.now bytes.now) }
     ensures every { (packet : List ℕ)
         → IsFrameOf address direction packet bytes.now → IsOkAnd result (λ p. p.now ≡ packet) }
@@ -98,13 +94,13 @@ pub fn read(
         (λ fault. reading address direction bytes.now ≡ Err fault) }
 {
     let [packet @ .., sent] = bytes else {
-        return Err(FrameFault::Short);
+        return Err(I3cFault::Short);
     };
     if packet.len() < MIN_PACKET_BYTES {
-        return Err(FrameFault::Short);
+        return Err(I3cFault::Short);
     }
     if *sent != pec(address_byte(address, direction), packet) {
-        return Err(FrameFault::WrongPec);
+        return Err(I3cFault::WrongPec);
     }
     Ok(packet)
 }

@@ -34,7 +34,7 @@ pub type FrameBytes = ArrayVec<u8, MAX_FRAME_BYTES>;
 
 /// Why bytes are no frame of a packet to an address.
 #[derive(Clone, Copy, Debug, PartialEq, Eq)]
-pub enum FrameFault {
+pub enum SmbusFault {
     /// 1: fewer than [`MIN_FRAME_BYTES`].
     Short,
     /// 2: a first byte that is not the own address for a write.
@@ -49,18 +49,18 @@ pub enum FrameFault {
     WrongPec,
 }
 
-impl FrameFault {
+impl SmbusFault {
     /// Its number in this crate's list, 1 to 6, which is the order in which they are looked for.
     pub fn number(self) -> u8
         ensures { result ≡ number_of self }
     {
         match self {
-            FrameFault::Short => 1,
-            FrameFault::NotOurs => 2,
-            FrameFault::OtherCommand => 3,
-            FrameFault::WrongCount => 4,
-            FrameFault::NotSource => 5,
-            FrameFault::WrongPec => 6,
+            SmbusFault::Short => 1,
+            SmbusFault::NotOurs => 2,
+            SmbusFault::OtherCommand => 3,
+            SmbusFault::WrongCount => 4,
+            SmbusFault::NotSource => 5,
+            SmbusFault::WrongPec => 6,
         }
     }
 
@@ -69,12 +69,12 @@ impl FrameFault {
         ensures { result.now ≡ name_of self }
     {
         match self {
-            FrameFault::Short => "Short",
-            FrameFault::NotOurs => "NotOurs",
-            FrameFault::OtherCommand => "OtherCommand",
-            FrameFault::WrongCount => "WrongCount",
-            FrameFault::NotSource => "NotSource",
-            FrameFault::WrongPec => "WrongPec",
+            SmbusFault::Short => "Short",
+            SmbusFault::NotOurs => "NotOurs",
+            SmbusFault::OtherCommand => "OtherCommand",
+            SmbusFault::WrongCount => "WrongCount",
+            SmbusFault::NotSource => "NotSource",
+            SmbusFault::WrongPec => "WrongPec",
         }
     }
 }
@@ -137,7 +137,7 @@ pub fn frame(
 /// The packet whose frame to the own address these bytes are, and the address that it comes from; or the
 /// first reason for which they are none: `Short`, `NotOurs`, `OtherCommand`, `WrongCount`, `NotSource`,
 /// `WrongPec` (DSP0237; the order is this crate's own).
-pub fn read(own: SmbusAddress, bytes: &[u8]) -> Result<Received<'_>, FrameFault>
+pub fn read(own: SmbusAddress, bytes: &[u8]) -> Result<Received<'_>, SmbusFault>
     ensures found { IfOk result (λ received. IsFrameTo own received bytes.now) }
     ensures every { (received : Reading) → IsFrameTo own received bytes.now → result ≡ Ok received }
     ensures refused { IfErr result (λ fault. refusal own bytes.now ≡ Some fault) }
@@ -147,30 +147,30 @@ pub fn read(own: SmbusAddress, bytes: &[u8]) -> Result<Received<'_>, FrameFault>
 }
 
 /// As `read`, check by check.
-fn read_in_turn(own: SmbusAddress, bytes: &[u8]) -> Result<Received<'_>, FrameFault>
+fn read_in_turn(own: SmbusAddress, bytes: &[u8]) -> Result<Received<'_>, SmbusFault>
     ensures refused { IfErr result (λ fault. refusal own bytes.now ≡ Some fault) }
     ensures answer { result ≡ reading own bytes.now }
 {
     let [destination, command, count, source, packet @ .., pec] = bytes else {
-        return Err(FrameFault::Short);
+        return Err(SmbusFault::Short);
     };
     if packet.is_empty() {
-        return Err(FrameFault::Short);
+        return Err(SmbusFault::Short);
     }
     if *destination != own.write_byte() {
-        return Err(FrameFault::NotOurs);
+        return Err(SmbusFault::NotOurs);
     }
     if *command != COMMAND_CODE {
-        return Err(FrameFault::OtherCommand);
+        return Err(SmbusFault::OtherCommand);
     }
     if usize::from(*count) != 1 + packet.len() {
-        return Err(FrameFault::WrongCount);
+        return Err(SmbusFault::WrongCount);
     }
     let Some(source) = source_in(*source) else {
-        return Err(FrameFault::NotSource);
+        return Err(SmbusFault::NotSource);
     };
     if *pec != crc8(&bytes[..bytes.len() - 1]) {
-        return Err(FrameFault::WrongPec);
+        return Err(SmbusFault::WrongPec);
     }
     Ok(Received { source, packet })
 }

@@ -3,7 +3,7 @@ use Rattle.std.proofs.Common.{◌≡◌, ◌⊎◌, ℕ, ◌+◌, ◌<◌, ◌�
 use Rattle.std.specs.List.{list_any}
 use Rattle.std.specs.Prelude.{not, ◌&&◌, ◌||◌, ◌==◌, nat_lt, take, option_and_then, option_map, slice_get, if◌then◌else◌}
 use Rattle.std.proofs.lemmas.Bool.{cases_eq, cond-true, cond-false, ne_eqb}
-use Rattle.pldm_wire.specs.declared.busy_time.BusyTime.TheVariants.{All}
+use Rattle.pldm_wire.specs.declared.restart_policy.RestartPolicy.TheVariants.{All}
 use Rattle.mctp_packet.specs.Laws.{SpelledIsReadFor, WrittenSpells}
 use Rattle.mctp_packet.specs.Packets.{Packet}
 use Rattle.mctp_assembly.specs.Steps as assembly

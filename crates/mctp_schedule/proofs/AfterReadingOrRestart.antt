@@ -1,7 +1,7 @@
 -- A reading that is set, and a restart: they leave all requests as they were.
 use Rattle.std.proofs.Common.{◌≡◌, ℕ, ◌≤◌, List, [], ◌∷◌, ◌++◌, refl, sym, ap, subst, ◌∙◌, arith}
 use Rattle.std.specs.Prelude.{ℤ, length, slice_get}
-use Rattle.pldm_wire.specs.declared.busy_time.BusyTime.TheVariants.{All}
+use Rattle.pldm_wire.specs.declared.restart_policy.RestartPolicy.TheVariants.{All}
 use Rattle.pldm_responder.specs.ResponderStates.{IsHeld}
 use Rattle.pldm_responder.specs.Laws.{RestartedLooksBack, SameIsLeft, SensedLooksBack}
 use Rattle.pldm_responder.specs.Events.{Set, Restarted}

@@ -29,7 +29,7 @@ use Rattle.mctp_schedule.specs.Timely.{IsTimelyLog}
 use Rattle.mctp_schedule.specs.FirstArrivals.{first}
 use Rattle.mctp_schedule.specs.OncePerformed.{FitsPackets, bytes_of, given_once, once, reply_from, was_busy}
 use Rattle.mctp_schedule.specs.RequesterHalf.{IsSound}
-use Rattle.mctp_schedule.specs.Taken.{brought, came, completes, completes_for, is_ready, is_waiting, part_count, replies, reply_of, row, way_to}
+use Rattle.mctp_schedule.specs.TakenReplies.{brought, came, completes, completes_for, is_ready, is_waiting, part_count, replies, reply_of, row, way_to}
 use Rattle.mctp_schedule.specs.Worlds.{BothEnds, World, answer_packets, busy_from, busy_packet, packet_of, reply_packet, requests_of, timing_of, world}
 use Rattle.schedule_text.specs.declared.step.Step.{Step}
 use Rattle.mctp_schedule.proofs.RepliesAreTaken.{AnswersRequest, answer_arrives, busy_refuses, reply_answers, whole_arrival}

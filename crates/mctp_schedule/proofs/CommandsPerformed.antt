@@ -2,7 +2,7 @@
 -- log that is each request's command once, at its first arrival.
 use Rattle.std.proofs.Common.{◌≡◌, ℕ, Bool, true, false, List, [], ◌∷◌, ◌++◌, Option, Some, None, refl, sym, ap, ◌∙◌}
 use Rattle.std.specs.Prelude.{not, ◌&&◌, if◌then◌else◌}
-use Rattle.pldm_wire.specs.declared.busy_time.BusyTime.TheVariants.{All}
+use Rattle.pldm_wire.specs.declared.restart_policy.RestartPolicy.TheVariants.{All}
 use Rattle.mctp_packet.specs.Laws.{SpelledIsReadFor, WrittenSpells}
 use Rattle.mctp_assembly.specs.Steps as assembly
 use Rattle.pldm_responder.specs.Arrivals.{Whole, arrival}

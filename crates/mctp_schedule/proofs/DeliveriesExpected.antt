@@ -20,7 +20,7 @@ use Rattle.mctp_schedule.specs.DeviceHalf.{NoneOpenedSince, FreshInOrderOfFirsts
 use Rattle.mctp_schedule.proofs.FittingReplies.{reply_fits}
 use Rattle.mctp_schedule.proofs.LatestFreshMessages.{performed_stays}
 use Rattle.mctp_schedule.proofs.OneReplyGiven.{given_is}
-use Rattle.pldm_wire.specs.declared.busy_time.BusyTime.TheVariants.{All}
+use Rattle.pldm_wire.specs.declared.restart_policy.RestartPolicy.TheVariants.{All}
 
 pub none_opened_since : {S : Type 0} → NoneOpenedSince S
 none_opened_since window keep past moment k j r q timely e f ne s i =

@@ -4,7 +4,7 @@
 use Rattle.std.proofs.Common.{◌≡◌, ◌≢◌, ℕ, zero, suc, ◌+◌, pos, List, [], ◌∷◌, ◌++◌, map, replicate, reverse, Some, true, false, refl, arith}
 use Rattle.std.specs.Prelude.{option_map}
 use Rattle.std.specs.List.{range_with_len}
-use Rattle.pldm_wire.specs.declared.busy_time.BusyTime.TheVariants.{All}
+use Rattle.pldm_wire.specs.declared.restart_policy.RestartPolicy.TheVariants.{All}
 use Rattle.mctp_packet.specs.Ids.{IsEid}
 use Rattle.pldm_wire.specs.CommandReading.{command_of}
 use Rattle.pldm_wire.specs.Requests.{request_of}
@@ -21,7 +21,7 @@ use Rattle.mctp_schedule.specs.OncePerformed.{AreRequests}
 use Rattle.mctp_schedule.specs.RequesterHalf.{IsTimelySchedule}
 use Rattle.mctp_schedule.specs.Runs.{newest_first}
 use Rattle.schedule_text.specs.Schedules.{IsSchedule, Spelled}
-use Rattle.mctp_schedule.specs.Taken.{is_waiting, replies, taken}
+use Rattle.mctp_schedule.specs.TakenReplies.{is_waiting, replies, taken}
 use Rattle.mctp_schedule.specs.Worlds.{BothEnds, is_timely, requests_of, world}
 use Rattle.schedule_text.specs.declared.step.Action.TheVariants.{Open, Tick, Request, Reply, Sense, Restart, Busy}
 use Rattle.schedule_text.specs.declared.step.Step.{Step}

@@ -14,7 +14,7 @@ use Rattle.mctp_schedule.specs.OncePerformed.{bytes_of, once, reply_from, the_re
 use Rattle.mctp_schedule.proofs.LatestFreshMessages.{is_of_self, copy_of, expired, performed_new, performed_stays, answered_copy, answered_new, latest, latest_stays, latest_other, latest_new}
 use Rattle.pldm_responder.proofs.RecentFirst.{found_in_front}
 use Rattle.mctp_schedule.proofs.IdsArrived.{IsFront, ids_delivered, found_in_window}
-use Rattle.pldm_wire.specs.declared.busy_time.BusyTime.TheVariants.{All}
+use Rattle.pldm_wire.specs.declared.restart_policy.RestartPolicy.TheVariants.{All}
 
 -- a request's number is the newest, or an older one
 pub request_opened : (q : Asked) (past : List Happening) (k : ℕ) (r : Asked) → asked_at (Opened q ∷ past) k ≡ Some r → ((k ≡ count_of past) × (q ≡ r)) ⊎ ((k ≢ count_of past) × (asked_at past k ≡ Some r))

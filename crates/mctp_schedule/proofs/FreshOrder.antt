@@ -12,7 +12,7 @@ use Rattle.mctp_schedule.specs.Timely.{InTime}
 use Rattle.mctp_schedule.specs.FirstArrivals.{first, is_first, fresh_of, order, firsts, IsSooner, IsOrderOfFirsts}
 use Rattle.mctp_schedule.proofs.SameOverAnyState.{same_busy, same_fresh, same_is_first, same_in_time}
 use Rattle.mctp_schedule.proofs.FirstPerformed.{is_first_of, never_first, first_other, first_stays, first_busy, first_none, first_here, entry}
-use Rattle.pldm_wire.specs.declared.busy_time.BusyTime.TheVariants.{All}
+use Rattle.pldm_wire.specs.declared.restart_policy.RestartPolicy.TheVariants.{All}
 
 -- a device that does nothing
 pub idle_device : Rules ℕ

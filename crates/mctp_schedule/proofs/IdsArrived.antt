@@ -10,7 +10,7 @@ use Rattle.mctp_schedule.specs.Logs.{Asked, Happening, Delivered, asked_at, mess
 use Rattle.pldm_responder.specs.Recency.{of_number, without, renewed}
 use Rattle.pldm_responder.proofs.RecentFirst.{renewed_in_map}
 use Rattle.mctp_schedule.specs.Timely.{with_first, ids_arrived}
-use Rattle.pldm_wire.specs.declared.busy_time.BusyTime.TheVariants.{All}
+use Rattle.pldm_wire.specs.declared.restart_policy.RestartPolicy.TheVariants.{All}
 
 -- the first list stands at the front of the second
 abbrev pub IsFront : List ℕ → List ℕ → Type 0

@@ -8,7 +8,7 @@ use Rattle.pldm_responder.specs.Events.{Message, Event, Came, Place, is_of, is_c
 use Rattle.pldm_responder.specs.Performing.{Rules, performed, answered, answered_by, reply_at, next}
 use Rattle.pldm_responder.specs.Recency.{of_number}
 use Rattle.pldm_responder.proofs.NoIdFallsOut.{found_after}
-use Rattle.pldm_wire.specs.declared.busy_time.BusyTime.TheVariants.{All}
+use Rattle.pldm_wire.specs.declared.restart_policy.RestartPolicy.TheVariants.{All}
 
 pub is_of_self : (m : Message) → is_of m m.source (id_at m.bytes) ≡ true
 is_of_self m = and_from _ _ (eq-eqb m.source m.source refl) (eq-eqb (id_at m.bytes) (id_at m.bytes) refl)

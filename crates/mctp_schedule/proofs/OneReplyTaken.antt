@@ -24,7 +24,7 @@ use Rattle.mctp_schedule.specs.Logs.{Asked, asked_at}
 use Rattle.mctp_schedule.specs.Timely.{IsTimelyLog}
 use Rattle.mctp_schedule.specs.OncePerformed.{given, was_busy}
 use Rattle.mctp_schedule.specs.RequesterHalf.{AnsweredWasPerformed, AnsweredWhereTaken, BusyIsExpected, IsTimelySchedule, OwnAssembly, OwnDeliveries, ReplyIsExpected, ProgressIs, TakenOnce}
-use Rattle.mctp_schedule.specs.Taken.{brought, busy_expected, busy_expected_to, came, completes, completes_for, got_by, if_waiting, is_waiting, part_count, reply_of, reply_expected, reply_expected_to, taken, way_to}
+use Rattle.mctp_schedule.specs.TakenReplies.{brought, busy_expected, busy_expected_to, came, completes, completes_for, got_by, if_waiting, is_waiting, part_count, reply_of, reply_expected, reply_expected_to, taken, way_to}
 use Rattle.mctp_schedule.specs.Worlds.{IsTimelyAction, BothEnds, TagIsOwn, World, answer_packets, busy_from, busy_packet, packet_of, reply_packet, source_of, timing_of, world}
 use Rattle.schedule_text.specs.declared.step.Action.TheVariants.{Reply, Busy}
 use Rattle.schedule_text.specs.declared.step.Step.{Step}

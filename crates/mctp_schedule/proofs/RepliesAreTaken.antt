@@ -19,7 +19,7 @@ use Rattle.pldm_wire.specs.declared.command.Command.TheVariants.{SetTid, GetTid,
 use Rattle.pldm_responder.specs.Performing.{Rules, answer_to, busy_reply, busy_reply_to, reply, reply_to, response_to}
 use Rattle.pldm_requester.specs.Arrivals.{Arrival, Drop, Answer as Answered, is_response_to, response_arrival}
 use Rattle.pldm_requester.specs.Numbering.{id_of, message_of}
-use Rattle.mctp_schedule.specs.Taken.{is_ready}
+use Rattle.mctp_schedule.specs.TakenReplies.{is_ready}
 
 is_kind : (command : Command) → IsKind (kind_of command)
 is_kind (SetTid tid) = omega arith

@@ -13,7 +13,7 @@ use Rattle.mctp_packet.specs.declared.reason.Reason.TheVariants.{OutOfSequence, 
 use Rattle.mctp_packet.specs.declared.TheConstants.{BASELINE_UNIT, SEQUENCE_NUMBERS}
 use Rattle.mctp_assembly.specs.Rows.{unit_of, follows, is_middle, is_end, is_row, is_message, newest, joined, given, next_within}
 use Rattle.mctp_assembly.specs.declared.fed.Fed.TheVariants.{Whole, Dropped}
-use Rattle.mctp_schedule.specs.Taken.{row}
+use Rattle.mctp_schedule.specs.TakenReplies.{row}
 
 -- packets 0, 1, .. so many, the newest first
 abbrev pub rising : ℕ → List (Option ℕ)

@@ -10,7 +10,7 @@ use Rattle.mctp_schedule.specs.FirstArrivals.{arrives, earlier, first, is_first}
 use Rattle.pldm_responder.specs.Recency.{of_number, renewed}
 use Rattle.pldm_responder.proofs.RecentFirst.{found_in_map, renewed_in_map}
 use Rattle.mctp_schedule.specs.Timely.{InTime, ids_arrived, with_first}
-use Rattle.pldm_wire.specs.declared.busy_time.BusyTime.TheVariants.{All}
+use Rattle.pldm_wire.specs.declared.restart_policy.RestartPolicy.TheVariants.{All}
 
 -- ---- whether the responder is busy, and when a request first arrived
 module _ (A B : Type 0) (keep : ℕ) where

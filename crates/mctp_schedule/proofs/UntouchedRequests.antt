@@ -11,7 +11,7 @@ use Rattle.mctp_schedule.specs.Logs.{Asked, Happening, Opened, Delivered, Sensed
 use Rattle.mctp_schedule.specs.FirstArrivals.{arrives, earlier, first}
 use Rattle.mctp_schedule.specs.OncePerformed.{bytes_of, given_once, reply_from, the_reply, was_busy}
 use Rattle.mctp_schedule.specs.RequesterHalf.{ProgressIs}
-use Rattle.mctp_schedule.specs.Taken.{brought, came, completes_for, is_waiting, part_count, replies, reply_of, taken, takes, with_delivery}
+use Rattle.mctp_schedule.specs.TakenReplies.{brought, came, completes_for, is_waiting, part_count, replies, reply_of, taken, takes, with_delivery}
 use Rattle.mctp_schedule.specs.Worlds.{BothEnds, World, requests_of, world}
 use Rattle.schedule_text.specs.declared.step.Action.{Action}
 use Rattle.schedule_text.specs.declared.step.Action.TheVariants as actions

@@ -19,7 +19,7 @@ use Rattle.pldm_requester.specs.Courses as progresses
 use Rattle.pldm_requester.specs.Courses.{Progress}
 use Rattle.pldm_requester.specs.declared.results.Got.TheVariants.{Dropped, Partial, Answered}
 use Rattle.mctp_schedule.specs.HandedPackets.{got_of_reply, got_of_busy}
-use Rattle.mctp_schedule.specs.Taken.{busy_expected, replies, reply_of, reply_expected, taken}
+use Rattle.mctp_schedule.specs.TakenReplies.{busy_expected, replies, reply_of, reply_expected, taken}
 use Rattle.mctp_schedule.specs.Worlds.{BothEnds, requests_of, world}
 use Rattle.schedule_text.specs.declared.step.Action.{Action}
 use Rattle.schedule_text.specs.declared.step.Action.TheVariants.{Open, Tick, Request, Reply, Sense, Restart, Busy}

@@ -2,7 +2,7 @@
 -- arrived in the order of their first arrivals, the device's state and the one reply of a request. One that is not
 -- timely is computed from the definitions of both ends. The newest step stands first.
 use Rattle.std.proofs.Common.{◌≡◌, ℕ, pos, List, [], ◌∷◌, ◌++◌, map, Some, None, true, false, Bool, Ok, ◌+◌, replicate, refl}
-use Rattle.pldm_wire.specs.declared.busy_time.BusyTime.TheVariants.{All}
+use Rattle.pldm_wire.specs.declared.restart_policy.RestartPolicy.TheVariants.{All}
 use Rattle.mctp_packet.specs.declared.reason.Reason.TheVariants.{UnexpectedMiddleOrEnd, BadTag, NotReady}
 use Rattle.pldm_wire.specs.CommandReading.{command_of}
 use Rattle.pldm_wire.specs.Requests.{request_of}
@@ -18,7 +18,7 @@ use Rattle.mctp_schedule.specs.FirstArrivals.{firsts, order}
 use Rattle.mctp_schedule.specs.Headline.{entries_expected, state_once}
 use Rattle.mctp_schedule.specs.Logs.{reached}
 use Rattle.mctp_schedule.specs.Requests.{Request as EndedRequest}
-use Rattle.mctp_schedule.specs.Taken.{reply_of, reply_expected, taken}
+use Rattle.mctp_schedule.specs.TakenReplies.{reply_of, reply_expected, taken}
 use Rattle.mctp_schedule.specs.Worlds.{BothEnds, is_timely, world}
 use Rattle.mctp_schedule.specs.declared.entry.Entry.{Entry}
 use Rattle.mctp_schedule.specs.declared.entry.Entry.TheVariants.{Nothing, Opened, Due, Delivered, Received, Sensed, Restarted}

@@ -2,7 +2,7 @@
 -- again. A window of two takes that for a copy, and the log is timely. A window of one performs the first request
 -- again, and the log is not timely for it; it is where the first is delivered again before the second.
 use Rattle.std.proofs.Common.{◌≡◌, true, false, List, [], ◌∷◌, refl}
-use Rattle.pldm_wire.specs.declared.busy_time.BusyTime.TheVariants.{All}
+use Rattle.pldm_wire.specs.declared.restart_policy.RestartPolicy.TheVariants.{All}
 use Rattle.mctp_schedule.specs.FirstArrivals.{has_arrived}
 use Rattle.mctp_schedule.specs.Logs.{Asked, Happening, Opened, Delivered, message_at, reached}
 use Rattle.pldm_responder.specs.Events.{is_copy, is_fresh}

@@ -2,7 +2,7 @@
 -- deliveries get its one reply.
 use Rattle.std.specs.Prelude.{◌≡◌, ◌≢◌, ℕ, ◌+◌, ◌*◌, ◌<◌, ◌≤◌, false, not, List, ◌∷◌, Some}
 use Rattle.pldm_wire.specs.Headers.{id_at}
-use Rattle.pldm_wire.specs.declared.busy_time.BusyTime.TheVariants.{All}
+use Rattle.pldm_wire.specs.declared.restart_policy.RestartPolicy.TheVariants.{All}
 use Rattle.pldm_responder.specs.Calls.{answer_expected}
 use Rattle.pldm_responder.specs.Events.{Place, is_busy, is_copy, is_fresh, origin}
 use Rattle.pldm_responder.specs.Performing.{Rules, performed}

@@ -1,6 +1,6 @@
 -- What came of each step: what both ends answered to it.
 use Rattle.std.specs.Prelude.{ℕ, ℤ, List, [], ◌∷◌, ◌++◌, ◌==◌, map, slice_index, Option, Some, None, Result, Ok, Err, if◌then◌else◌}
-use Rattle.pldm_wire.specs.declared.busy_time.BusyTime.TheVariants.{All}
+use Rattle.pldm_wire.specs.declared.restart_policy.RestartPolicy.TheVariants.{All}
 use Rattle.pldm_platform.specs.Changes.{made_of}
 use Rattle.pldm_responder.specs.Calls.{answer_expected}
 use Rattle.pldm_responder.specs.Events.{is_busy}

@@ -15,7 +15,7 @@ use Rattle.mctp_schedule.specs.OncePerformed.{delivery_expected, once}
 use Rattle.mctp_schedule.specs.PerformedCommands.{commands_once}
 use Rattle.mctp_schedule.specs.Requests.{Request as EndedRequest}
 use Rattle.mctp_schedule.specs.RequesterHalf.{ProgressIs, WasPerformedOnce}
-use Rattle.mctp_schedule.specs.Taken.{busy_expected, reply_expected}
+use Rattle.mctp_schedule.specs.TakenReplies.{busy_expected, reply_expected}
 use Rattle.mctp_schedule.specs.Worlds.{BothEnds, world}
 use Rattle.mctp_schedule.specs.declared.entry.Entry.{Entry}
 use Rattle.mctp_schedule.specs.declared.entry.Entry.TheVariants.{Nothing, Delivered, Sensed}

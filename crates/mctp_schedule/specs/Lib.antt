@@ -25,6 +25,6 @@ pub mod Requests
 pub mod RunFaults
 pub mod Running
 pub mod Runs
-pub mod Taken
+pub mod TakenReplies
 pub mod Timely
 pub mod Worlds

@@ -2,7 +2,7 @@
 use Rattle.std.specs.Prelude.{◌≡◌, ℕ, ◌<◌, ◌≤◌, true, false, List, [], ◌∷◌, length, Bool, ◌&&◌, ◌||◌, ◌==◌, Option, Some, None, Ok, option_map, if◌then◌else◌}
 use Rattle.mctp_packet.specs.declared.TheConstants.{MAX_MESSAGE_BYTES}
 use Rattle.pldm_wire.specs.Requests as requests
-use Rattle.pldm_wire.specs.declared.busy_time.BusyTime.TheVariants.{All}
+use Rattle.pldm_wire.specs.declared.restart_policy.RestartPolicy.TheVariants.{All}
 use Rattle.pldm_platform.specs.Changes.{changed_or}
 use Rattle.pldm_responder.specs.Events.{is_busy, is_fresh}
 use Rattle.pldm_responder.specs.Performing.{Rules, reply, next, changes, busy_reply, performed, answered}

@@ -12,7 +12,7 @@ use Rattle.mctp_schedule.specs.Logs.{Asked, Happening, asked_at}
 use Rattle.mctp_schedule.specs.FirstArrivals.{first, order}
 use Rattle.mctp_schedule.specs.OncePerformed.{RepliesFit, once}
 use Rattle.mctp_schedule.specs.HandedPackets.{got_of_busy, got_of_reply}
-use Rattle.mctp_schedule.specs.Taken.{busy_expected, came, completes, is_waiting, reply_of, reply_expected, taken}
+use Rattle.mctp_schedule.specs.TakenReplies.{busy_expected, came, completes, is_waiting, reply_of, reply_expected, taken}
 use Rattle.mctp_schedule.specs.Worlds.{IsTimely, IsTimelyAction, NeverWentBack, BothEnds, requests_of, timing_of, world}
 use Rattle.schedule_text.specs.declared.step.Action.TheVariants.{Reply, Busy}
 use Rattle.schedule_text.specs.declared.step.Step.{Step}

@@ -6,7 +6,7 @@ use Rattle.pldm_responder.specs.Calls as responder
 use Rattle.pldm_responder.specs.Laws as responder_laws
 use Rattle.pldm_responder.specs.Performing.{Rules, busy_reply}
 use Rattle.pldm_responder.specs.ResponderViews as responder_stations
-use Rattle.pldm_wire.specs.declared.busy_time.BusyTime.TheVariants.{All}
+use Rattle.pldm_wire.specs.declared.restart_policy.RestartPolicy.TheVariants.{All}
 use Rattle.pldm_wire.specs.declared.command.Command.{Command}
 use Rattle.pldm_requester.specs.Laws as requester_laws
 use Rattle.pldm_requester.specs.Slots.{held_of}

@@ -1,6 +1,6 @@
 -- A run of a device and the requesters of a schedule: what it is about, and the world at its end.
 use Rattle.std.specs.Prelude.{ℕ, List, reverse}
-use Rattle.pldm_wire.specs.declared.busy_time.BusyTime.TheVariants.{All}
+use Rattle.pldm_wire.specs.declared.restart_policy.RestartPolicy.TheVariants.{All}
 use Rattle.pldm_responder.specs.Performing.{Rules, performed}
 use Rattle.mctp_schedule.specs.Logs.{reached}
 use Rattle.schedule_text.specs.Schedules.{Spelled}

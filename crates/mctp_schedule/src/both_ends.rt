@@ -2,7 +2,7 @@
 
 ghost use Rattle.std.specs.Prelude.{◌≡◌, ◌⊎◌, true, None, Some, IfOk, IfErr, OnOk};
 ghost use Rattle.mctp_packet.specs.Memories.{out_of_memory};
-ghost use Rattle.pldm_wire.specs.declared.busy_time.BusyTime.TheVariants.{All};
+ghost use Rattle.pldm_wire.specs.declared.restart_policy.RestartPolicy.TheVariants.{All};
 ghost use Rattle.pldm_responder.specs.ResponderStates.{IsHeld, held_at_first};
 ghost use Rattle.pldm_responder.specs.Performing.{rules_of};
 ghost use Rattle.pldm_responder.specs.ResponderViews.{held_of};
@@ -26,8 +26,8 @@ use arrayvec::ArrayVec;
 use bumpalo::Bump;
 use mctp_packet::{Body, Eid, Keep, Memory, Moment, TAGS};
 use pldm_platform::Platform;
-use pldm_responder::{Bounds, Keeping, Responder};
-use pldm_wire::{BusyTime, Command, Window};
+use pldm_responder::{Bounds, Responder, ResponderSettings};
+use pldm_wire::{Command, RestartPolicy, Window};
 use std::alloc::Global;
 
 /// A device at an endpoint.
@@ -157,10 +157,10 @@ fn begin_device<P: Platform>(
     ensures held { IsHeld (held_of result) (held_at_first eid All window keep (P.state device)) }
     ensures platform { result.platform ≡ device }
 {
-    let keeping = Keeping {
+    let keeping = ResponderSettings {
         keep,
         window,
-        busy: BusyTime::All,
+        busy: RestartPolicy::All,
     };
     Responder::bounded(alloc, Some(eid), keeping, Bounds::UNREACHED, device)
 }

@@ -8,7 +8,7 @@ use Rattle.mctp_serial.specs.Frames.{HasFrame, spelled, spelled_all, ending, fra
 use Rattle.mctp_serial.specs.Laws.{OnlyFramesAreReported}
 use Rattle.mctp_serial.specs.Readings.{Reading, idle, opened, counting, inside, escaped, high, low, closing, Step, nothing_yet, drops, adds, after_end, inside_or_past, checks, packet_of, step, after}
 use Rattle.mctp_serial.specs.declared.TheConstants.{FLAG, ESCAPE, ESCAPED_FLAG, ESCAPED_ESCAPE, REVISION}
-use Rattle.mctp_serial.specs.declared.fault.FrameFault.TheVariants.{WrongRevision, Empty, TooLong, CutShort, BadEscape, WrongCheck, NoEnd}
+use Rattle.mctp_serial.specs.declared.fault.SerialFault.TheVariants.{WrongRevision, Empty, TooLong, CutShort, BadEscape, WrongCheck, NoEnd}
 use Rattle.mctp_serial.specs.declared.reader.FrameEvent.{FrameEvent}
 use Rattle.mctp_serial.specs.declared.reader.FrameEvent.TheVariants.{Nothing, Packet, Dropped}
 use Rattle.mctp_serial.proofs.Spelling.{spelled_all-append}

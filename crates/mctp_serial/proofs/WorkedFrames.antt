@@ -3,7 +3,7 @@ use Rattle.std.proofs.Common.{◌≡◌, ℕ, List, [], ◌∷◌, ◌++◌, ref
 use Rattle.mctp_serial.specs.CheckSequences.{bit_further, bits_further, byte_further, check_sequence}
 use Rattle.mctp_serial.specs.Frames.{frame}
 use Rattle.mctp_serial.specs.Readings.{idle, packet_of, events_in}
-use Rattle.mctp_serial.specs.declared.fault.FrameFault.TheVariants.{WrongRevision, Empty, TooLong, CutShort, BadEscape, WrongCheck, NoEnd}
+use Rattle.mctp_serial.specs.declared.fault.SerialFault.TheVariants.{WrongRevision, Empty, TooLong, CutShort, BadEscape, WrongCheck, NoEnd}
 use Rattle.mctp_serial.specs.declared.reader.FrameEvent.TheVariants.{Dropped}
 
 abbrev a_packet : List ℕ

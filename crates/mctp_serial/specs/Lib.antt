@@ -1,5 +1,5 @@
 pub mod CheckSequences
-pub mod FrameFaults
+pub mod SerialFaults
 pub mod Frames
 pub mod Readings
 pub mod Places

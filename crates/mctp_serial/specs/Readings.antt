@@ -3,9 +3,9 @@ use Rattle.std.specs.Prelude.{ℕ, ◌+◌, ◌*◌, ◌==◌, nat_le, if◌then
 use Rattle.mctp_packet.specs.declared.TheConstants.{MAX_PACKET_BYTES}
 use Rattle.mctp_serial.specs.CheckSequences.{check_sequence}
 use Rattle.mctp_serial.specs.declared.TheConstants.{ESCAPE, ESCAPED_ESCAPE, ESCAPED_FLAG, FLAG, REVISION}
-use Rattle.mctp_serial.specs.declared.fault.FrameFault.{FrameFault}
-use Rattle.mctp_serial.specs.declared.fault.FrameFault.TheVariants.{WrongRevision, Empty, TooLong, CutShort}
-use Rattle.mctp_serial.specs.declared.fault.FrameFault.TheVariants.{BadEscape, WrongCheck, NoEnd}
+use Rattle.mctp_serial.specs.declared.fault.SerialFault.{SerialFault}
+use Rattle.mctp_serial.specs.declared.fault.SerialFault.TheVariants.{WrongRevision, Empty, TooLong, CutShort}
+use Rattle.mctp_serial.specs.declared.fault.SerialFault.TheVariants.{BadEscape, WrongCheck, NoEnd}
 use Rattle.mctp_serial.specs.declared.reader.FrameEvent.{FrameEvent}
 use Rattle.mctp_serial.specs.declared.reader.FrameEvent.TheVariants.{Nothing, Packet, Dropped}
 
@@ -43,7 +43,7 @@ packet_of bytes = Packet (record { items = bytes })
 abbrev pub after_end : ℕ → Reading
 after_end byte = if byte == FLAG then opened else idle
 
-abbrev pub drops : FrameFault → ℕ → Step
+abbrev pub drops : SerialFault → ℕ → Step
 drops fault byte = record { event = Dropped fault; next = after_end byte }
 
 -- after one byte of the packet: it may have been the last

@@ -1,11 +1,11 @@
 //! Why bytes on a serial line are no frame of a packet (DSP0253).
 
 ghost use Rattle.std.specs.Prelude.{◌≡◌};
-ghost use Rattle.mctp_serial.specs.FrameFaults.{number_of, name_of};
+ghost use Rattle.mctp_serial.specs.SerialFaults.{number_of, name_of};
 
 /// Why bytes after a flag are no frame.
 #[derive(Clone, Copy, Debug, PartialEq, Eq)]
-pub enum FrameFault {
+pub enum SerialFault {
     /// 1: a revision other than 1.
     WrongRevision,
     /// 2: a count of 0.
@@ -22,19 +22,19 @@ pub enum FrameFault {
     NoEnd,
 }
 
-impl FrameFault {
+impl SerialFault {
     /// Its number in this profile's list, 1 to 7.
     pub fn number(self) -> u8
         ensures { result ≡ number_of self }
     {
         match self {
-            FrameFault::WrongRevision => 1,
-            FrameFault::Empty => 2,
-            FrameFault::TooLong => 3,
-            FrameFault::CutShort => 4,
-            FrameFault::BadEscape => 5,
-            FrameFault::WrongCheck => 6,
-            FrameFault::NoEnd => 7,
+            SerialFault::WrongRevision => 1,
+            SerialFault::Empty => 2,
+            SerialFault::TooLong => 3,
+            SerialFault::CutShort => 4,
+            SerialFault::BadEscape => 5,
+            SerialFault::WrongCheck => 6,
+            SerialFault::NoEnd => 7,
         }
     }
 
@@ -43,13 +43,13 @@ impl FrameFault {
         ensures { result.now ≡ name_of self }
     {
         match self {
-            FrameFault::WrongRevision => "WrongRevision",
-            FrameFault::Empty => "Empty",
-            FrameFault::TooLong => "TooLong",
-            FrameFault::CutShort => "CutShort",
-            FrameFault::BadEscape => "BadEscape",
-            FrameFault::WrongCheck => "WrongCheck",
-            FrameFault::NoEnd => "NoEnd",
+            SerialFault::WrongRevision => "WrongRevision",
+            SerialFault::Empty => "Empty",
+            SerialFault::TooLong => "TooLong",
+            SerialFault::CutShort => "CutShort",
+            SerialFault::BadEscape => "BadEscape",
+            SerialFault::WrongCheck => "WrongCheck",
+            SerialFault::NoEnd => "NoEnd",
         }
     }
 }

@@ -9,7 +9,7 @@ pub mod laws;
 mod reader;
 
 use arrayvec::ArrayVec;
-pub use fault::FrameFault;
+pub use fault::SerialFault;
 pub use frames::frame;
 use mctp_packet::MAX_PACKET_BYTES;
 pub use reader::{FrameEvent, FrameReader};

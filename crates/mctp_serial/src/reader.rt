@@ -6,7 +6,7 @@ ghost use Rattle.mctp_serial.specs.Readings.{idle, opened, counting, inside, esc
 ghost use Rattle.mctp_serial.specs.declared.reader.Place.TheVariants.{Inside, Escaped};
 
 use crate::checking::check_sequence;
-use crate::{ESCAPE, ESCAPED_ESCAPE, ESCAPED_FLAG, FLAG, FrameFault, PacketBytes, REVISION};
+use crate::{ESCAPE, ESCAPED_ESCAPE, ESCAPED_FLAG, FLAG, PacketBytes, REVISION, SerialFault};
 use mctp_packet::MAX_PACKET_BYTES;
 use std::marker::Model;
 use std::mem;
@@ -19,7 +19,7 @@ pub enum FrameEvent {
     /// It ended the frame of this packet.
     Packet(PacketBytes),
     /// It is why the bytes since the last flag are no frame.
-    Dropped(FrameFault),
+    Dropped(SerialFault),
 }
 
 /// Which byte of a frame is to come.
@@ -110,7 +110,7 @@ fn after_end(byte: u8) -> Place
 }
 
 /// The place after this byte, for which the bytes since the last flag are no frame.
-fn drop(fault: FrameFault, byte: u8) -> (Place, FrameEvent)
+fn drop(fault: SerialFault, byte: u8) -> (Place, FrameEvent)
     ensures reading { (bytes : List ℕ)
         → drops fault byte ≡ record { event = result.1; next = reading_of result.0 bytes } }
     ensures room { (bytes : List ℕ) → HasRoom result.0 bytes }
@@ -127,7 +127,7 @@ fn read_revision(byte: u8) -> (Place, FrameEvent)
     match byte {
         FLAG => (Place::Opened, FrameEvent::Nothing),
         REVISION => (Place::Counting, FrameEvent::Nothing),
-        _ => drop(FrameFault::WrongRevision, byte),
+        _ => drop(SerialFault::WrongRevision, byte),
     }
 }
 
@@ -137,10 +137,10 @@ fn read_count(byte: u8, bytes: &mut PacketBytes) -> (Place, FrameEvent)
     ensures room { HasRoom result.0 bytes.new.items }
 {
     if byte == 0 {
-        return drop(FrameFault::Empty, byte);
+        return drop(SerialFault::Empty, byte);
     }
     if usize::from(byte) > MAX_PACKET_BYTES {
-        return drop(FrameFault::TooLong, byte);
+        return drop(SerialFault::TooLong, byte);
     }
     bytes.clear();
     (Place::Inside(byte), FrameEvent::Nothing)
@@ -154,7 +154,7 @@ fn read_inside(count: u8, byte: u8, bytes: &mut PacketBytes) -> (Place, FrameEve
     ensures room { HasRoom result.0 bytes.new.items }
 {
     match byte {
-        FLAG => drop(FrameFault::CutShort, byte),
+        FLAG => drop(SerialFault::CutShort, byte),
         ESCAPE => (Place::Escaped(count), FrameEvent::Nothing),
         _ => (add(count, byte, bytes), FrameEvent::Nothing),
     }
@@ -170,7 +170,7 @@ fn read_escaped(count: u8, byte: u8, bytes: &mut PacketBytes) -> (Place, FrameEv
     match byte {
         ESCAPED_FLAG => (add(count, FLAG, bytes), FrameEvent::Nothing),
         ESCAPED_ESCAPE => (add(count, ESCAPE, bytes), FrameEvent::Nothing),
-        _ => drop(FrameFault::BadEscape, byte),
+        _ => drop(SerialFault::BadEscape, byte),
     }
 }
 
@@ -196,10 +196,10 @@ fn read_end(sent: u16, byte: u8, bytes: &mut PacketBytes) -> (Place, FrameEvent)
     ensures room { HasRoom result.0 bytes.new.items }
 {
     if byte != FLAG {
-        return drop(FrameFault::NoEnd, byte);
+        return drop(SerialFault::NoEnd, byte);
     }
     if check_sequence(bytes) != sent {
-        return drop(FrameFault::WrongCheck, byte);
+        return drop(SerialFault::WrongCheck, byte);
     }
     (
         Place::Opened,

@@ -17,7 +17,7 @@ use Rattle.mctpctl_table.specs.Rows.{Described, described_of, rows_by}
 use Rattle.mctpctl_table.specs.Tables.{Cells, table_text}
 use Rattle.mctpctl_walk.specs.Steps.{after}
 use Rattle.mctpctl_walk.specs.Walks.{Walking, begun as begun_walk, next_command, reading_at}
-use Rattle.mctpctl_walk.specs.declared.subject.Found.{Found}
+use Rattle.mctpctl_walk.specs.declared.discovered.Discovered.{Discovered}
 use Rattle.pldm_wire.specs.declared.limits.TheConstants.{GET_NEXT_PART}
 use Rattle.pldm_wire.specs.declared.command.Command.{Command}
 use Rattle.pldm_wire.specs.declared.command.Command.TheVariants.{GetPdr}
@@ -71,15 +71,15 @@ pub record AsksEndpoint (settings : Settings) (status : ℕ) (s s1 : Shown) (out
 
 -- ---- the walk
 -- how far a walk has come, on which line, and what was printed, where that is known
-pub record Standing : Type 0 where
+pub record WalkView : Type 0 where
   pub walking : Walking
   pub shown : Shown
   pub out : Option (List ℕ)
 
-abbrev pub standing :
+abbrev pub walk_view :
     {C R W O : Type 0} → (C → Option (List ℕ)) → (R → Option (List ℕ)) → (W → Option (List ℕ)) → (O → Option (List ℕ))
-    → Walking → Conversation C R W O → Standing
-standing to_come remaining contents printed walking conversation = record {
+    → Walking → Conversation C R W O → WalkView
+walk_view to_come remaining contents printed walking conversation = record {
   walking = walking;
   shown = shown_in to_come remaining contents conversation;
   out = printed_in printed conversation;
@@ -102,7 +102,7 @@ record_text command place w = if goes_on command then joined_text (slice_get w.r
 
 -- the next command was asked, the answer to that very request was printed, and the walk took it; then the record that
 -- it completed was printed, where that came in several parts; and this is the exit status of that answer
-pub record Visits (status : ℕ) (a b : Standing) : Type 0 where
+pub record Visits (status : ℕ) (a b : WalkView) : Type 0 where
   pub command : Command
   pub next : next_command a.walking ≡ Some command
   pub number : ℕ
@@ -113,47 +113,47 @@ pub record Visits (status : ℕ) (a b : Standing) : Type 0 where
   pub status_is : status ≡ status_of_answer (answer_of b.shown.asking.held number)
 
 -- at the walk's end nothing was done
-abbrev pub StepsOn : Option ℕ → Standing → Standing → Type 0
+abbrev pub StepsOn : Option ℕ → WalkView → WalkView → Type 0
 StepsOn None a b = (next_command a.walking ≡ None) × (b ≡ a)
 StepsOn (Some status) a b = Visits status a b
 
 -- command after command was asked; these were the standings before each, the newest first, and this is the greatest of
 -- the exit statuses
-abbrev pub Walked : ℕ → Standing → List Standing → Standing → Type 0
+abbrev pub Walked : ℕ → WalkView → List WalkView → WalkView → Type 0
 Walked status a [] b = (b ≡ a) × (status ≡ DONE)
 Walked status a (mid ∷ before) b =
     (so_far : ℕ) × (one : ℕ) × Walked so_far a before mid × Visits one mid b × (status ≡ max so_far one)
 
 -- up to the walk's end
-pub record WalksThrough (status : ℕ) (a b : Standing) : Type 0 where
-  pub before : List Standing
+pub record WalksThrough (status : ℕ) (a b : WalkView) : Type 0 where
+  pub before : List WalkView
   pub walked : Walked status a before b
   pub ends : next_command b.walking ≡ None
 
 -- the line stopped at the next command
-pub record StopsNext (fault : AskFault) (a b : Standing) : Type 0 where
+pub record StopsNext (fault : AskFault) (a b : WalkView) : Type 0 where
   pub command : Command
   pub next : next_command a.walking ≡ Some command
   pub stops : AskStops command fault a.shown b.shown
 
 -- command after command was asked; then the line stopped at the next one, or there were too many
-pub record StopsWalking (fault : AskFault) (a b : Standing) : Type 0 where
-  pub before : List Standing
-  pub last : Standing
+pub record StopsWalking (fault : AskFault) (a b : WalkView) : Type 0 where
+  pub before : List WalkView
+  pub last : WalkView
   pub status : ℕ
   pub walked : Walked status a before last
   pub reason : StopsNext fault last b ⊎ ((fault ≡ TooMany) × (length before ≡ 18446744073709551615))
 
 -- ---- the table
 -- the record by which something was found
-abbrev pub record_at : Walking → Found → List ℕ
+abbrev pub record_at : Walking → Discovered → List ℕ
 record_at w found = unwrap_or (slice_get w.records found.place) []
 
 -- what it says of it, with its names among the records
-abbrev pub described_at : Walking → Found → Option Described
+abbrev pub described_at : Walking → Discovered → Option Described
 described_at w found = described_of (record_at w found) w.records
 
-abbrev pub rows_for : Walking → ℕ → Option Found → List Cells
+abbrev pub rows_for : Walking → ℕ → Option Discovered → List Cells
 rows_for w place None = []
 rows_for w place (Some found) = rows_by (described_at w found) (reading_at w place)
 
@@ -182,8 +182,8 @@ pub record WalksDevice (settings : Settings) (status : ℕ) (s s1 : Shown) (out 
   pub begun_out : Option (List ℕ)
   pub asks : AsksEndpoint settings endpoint s begun out begun_out
   pub walked : ℕ
-  pub first : Standing
-  pub last : Standing
+  pub first : WalkView
+  pub last : WalkView
   pub walks : WalksThrough walked first last
   pub from_the_start : first ≡ record { walking = begun_walk; shown = begun; out = begun_out }
   pub shown : last.shown ≡ s1

@@ -10,18 +10,18 @@ use Rattle.mctpctl_table.specs.Marks.{marked_text}
 use Rattle.mctpctl_table.specs.Tables.{Cells}
 use Rattle.mctpctl_walk.specs.Subjects.{question}
 use Rattle.mctpctl_walk.specs.Walks.{Walking}
-use Rattle.mctpctl_walk.specs.declared.subject.Found.{Found}
+use Rattle.mctpctl_walk.specs.declared.discovered.Discovered.{Discovered}
 use Rattle.mctpctl.specs.AskedTexts.{status_of_answer}
 use Rattle.mctpctl.specs.WalkedTexts.{described_at}
 use Rattle.mctpctl.specs.declared.talk.TheConstants.{DONE}
 
 -- the rows of what was found, by its record and by what answered for it
-abbrev pub rows_heard : Walking → Found → Option (List ℕ) → List Cells
+abbrev pub rows_heard : Walking → Discovered → Option (List ℕ) → List Cells
 rows_heard w found message = rows_by (described_at w found) message
 
 -- its question was asked, and the answer to that very request gave its rows and the exit status
 pub record ReadsOne (w : Walking) (place : ℕ) (s s1 : Shown) (rows rows1 : List Cells) (status : ℕ) : Type 0 where
-  pub found : Found
+  pub found : Discovered
   pub is_found : slice_get w.found place ≡ Some found
   pub number : ℕ
   pub ended : Ended
@@ -41,7 +41,7 @@ ReadsAll w s s1 rows status = ReadsFirst w (length w.found) s s1 rows status
 
 -- the line stopped at the question of what was found at a place
 pub record StopsOne (w : Walking) (place : ℕ) (fault : AskFault) (s s1 : Shown) : Type 0 where
-  pub found : Found
+  pub found : Discovered
   pub is_found : slice_get w.found place ≡ Some found
   pub stops : AskStops (question found.subject) fault s s1
 

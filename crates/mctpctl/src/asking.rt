@@ -11,7 +11,7 @@ use crate::commands::{AskedCommand, CommandsFault, read_commands};
 use crate::conversation::Conversation;
 use crate::talk::{DONE, Errand, FAILED, REFUSED, USAGE, do_errand, read_settings};
 use mctp_packet::Memory;
-use mctpctl_command_line::{NO_COMMAND, Question, TRY_HELP};
+use mctpctl_command_line::{AskOptions, NO_COMMAND, TRY_HELP};
 use mctpctl_decode::push_decoded_line;
 use mctpctl_input::Port;
 use mctpctl_texts::{write_data, write_text};
@@ -21,7 +21,7 @@ use std::alloc::Global;
 use std::io::{Read, Write};
 
 /// Asks the device what the command line says, and returns the exit status. What fails is said on standard error.
-pub fn ask_device(rt: &HostRuntime, question: &Question<'_>, words: &[&str]) -> u8
+pub fn ask_device(rt: &HostRuntime, question: &AskOptions<'_>, words: &[&str]) -> u8
     ensures { result ≤ FAILED }
 {
     let settings = match read_settings(rt, &question.link) {
@@ -40,7 +40,7 @@ pub fn ask_device(rt: &HostRuntime, question: &Question<'_>, words: &[&str]) -> 
 }
 
 /// Says why there are no commands, and returns the exit status.
-fn commands_failed(rt: &HostRuntime, question: &Question<'_>, fault: &CommandsFault) -> u8
+fn commands_failed(rt: &HostRuntime, question: &AskOptions<'_>, fault: &CommandsFault) -> u8
     ensures { result ≤ FAILED }
 {
     let file = question.file.unwrap_or("");
@@ -75,7 +75,7 @@ fn commands_failed(rt: &HostRuntime, question: &Question<'_>, fault: &CommandsFa
 /// Asks each command over a line, prints its answer, and returns the exit status.
 pub fn ask_each<C: Ticks, R: Read, W: Write, O: Write>(
     rt: &HostRuntime,
-    question: &Question<'_>,
+    question: &AskOptions<'_>,
     commands: &[AskedCommand],
     conversation: &mut Conversation<C, R, W, O>,
 ) -> Result<u8, AskFault>
@@ -101,7 +101,7 @@ pub fn ask_each<C: Ticks, R: Read, W: Write, O: Write>(
 /// Asks a command, and returns the exit status. Where no answer came, that is said on standard error.
 fn ask_one<C: Ticks, R: Read, W: Write, O: Write>(
     rt: &HostRuntime,
-    question: &Question<'_>,
+    question: &AskOptions<'_>,
     asked: &AskedCommand,
     conversation: &mut Conversation<C, R, W, O>,
 ) -> Result<u8, AskFault>
@@ -126,7 +126,7 @@ fn ask_one<C: Ticks, R: Read, W: Write, O: Write>(
 }
 
 /// Says that a command got no answer.
-fn say_no_answer(rt: &HostRuntime, question: &Question<'_>, asked: &AskedCommand) {
+fn say_no_answer(rt: &HostRuntime, question: &AskOptions<'_>, asked: &AskedCommand) {
     if question.file.is_some() {
         let _ = eprintln!(rt; "mctpctl: line {}: no answer", asked.line);
     } else {

@@ -5,7 +5,7 @@ ghost use Rattle.mctpctl.specs.AskedCommands.{IsOfLines, commands_of, with_line}
 
 use crate::device_file::device_text;
 use line_words::split_line;
-use mctpctl_command_line::Question;
+use mctpctl_command_line::AskOptions;
 use mctpctl_input::MAX_DESCRIPTION;
 use pldm_wire::Command;
 use schedule_text::{LineFaultKind, command_in};
@@ -53,7 +53,7 @@ impl From<AllocError> for CommandsFault {
 /// The commands that a command line asks for: those of its file, or the one in its last words.
 pub fn read_commands(
     rt: &HostRuntime,
-    question: &Question<'_>,
+    question: &AskOptions<'_>,
     words: &[&str],
 ) -> Result<Vec<AskedCommand>, CommandsFault> {
     let alloc = rt.alloc();

@@ -28,8 +28,8 @@ use crate::watching::run_watch;
 use mctpctl_command_line::{Choice, ChooseFault, Task, TextTask, choose};
 use mctpctl_decode::decode_all;
 use mctpctl_engines::{answer_all, run_all, show_all};
-use mctpctl_explain::{Subject, explain, warnings};
-use mctpctl_input::{EngineFault, Keeping, Port};
+use mctpctl_explain::{Subcommand, explain, warnings};
+use mctpctl_input::{EngineFault, Port, TeeReader};
 use std::alloc::{AllocError, Global};
 use std::env;
 use std::io::{BufWriter, ErrorKind, IsTerminal, Read, Write};
@@ -97,7 +97,7 @@ fn perform_text(rt: &HostRuntime, text: TextTask) -> u8 {
         let result = run(rt, text, &mut Port::new(rt.stdin()));
         return status(rt, &result);
     }
-    let mut reader = Port::new(Keeping::new(rt.alloc(), rt.stdin()));
+    let mut reader = Port::new(TeeReader::new(rt.alloc(), rt.stdin()));
     let result = run(rt, text, &mut reader);
     let status = status(rt, &result);
     if let Some(input) = reader.into_inner().kept() {
@@ -150,9 +150,9 @@ fn status(rt: &HostRuntime, ended: &Result<(), EngineFault>) -> u8 {
 /// Explains the fault of a run on standard error, and warns of what is ignored in its input.
 fn say_more(rt: &HostRuntime, task: Task, input: &[u8], ended: &Result<(), EngineFault>) {
     let subject = match task {
-        Task::Answer => Subject::Answer,
-        Task::Run => Subject::Run,
-        Task::Show => Subject::Show,
+        Task::Answer => Subcommand::Answer,
+        Task::Run => Subcommand::Run,
+        Task::Show => Subcommand::Show,
     };
     if let Err(fault) = ended
         && let Ok(text) = explain(rt.alloc(), subject, input, fault)

@@ -12,11 +12,11 @@ use crate::device_file::{device_text, read_served};
 use crate::faults::{engine_fault, print_fault};
 use crate::talk::{DONE, FAILED};
 use mctp_serial::FrameReader;
-use mctpctl_command_line::Service;
+use mctpctl_command_line::ServeOptions;
 use mctpctl_input::{EngineFault, Port};
 use pldm_device::{ControlTable, Description, SimDevice};
 use pldm_line::{Log, ServedLine, SystemTicks, serve};
-use pldm_responder::{Bounds, Keeping, Responder};
+use pldm_responder::{Bounds, Responder, ResponderSettings};
 use std::alloc::{AllocError, Global};
 use std::fs::File;
 use std::io::{ErrorKind, Stderr};
@@ -38,7 +38,7 @@ enum ServiceFault {
 }
 
 /// Serves the device until its line ends, and returns the exit status. A fault is printed on standard error.
-pub fn serve_device(rt: &HostRuntime, service: &Service<'_>) -> u8
+pub fn serve_device(rt: &HostRuntime, service: &ServeOptions<'_>) -> u8
     ensures { result ≤ FAILED }
 {
     match run(rt, service) {
@@ -69,7 +69,7 @@ fn file_failed(rt: &HostRuntime, name: &str, error: &io::Error) -> u8
 }
 
 /// Reads the description, and then the line to its end.
-fn run(rt: &HostRuntime, service: &Service<'_>) -> Result<(), ServiceFault> {
+fn run(rt: &HostRuntime, service: &ServeOptions<'_>) -> Result<(), ServiceFault> {
     let alloc = rt.alloc();
     let (description, table) = described(rt, service.device)?;
     let watch = watcher(rt, service)?;
@@ -114,7 +114,7 @@ fn served_line<C: Drop, L: Drop>(
         device,
     } = description;
     let own = eid_at_first(eid, table);
-    let keeping = Keeping { keep, window, busy };
+    let keeping = ResponderSettings { keep, window, busy };
     ServedLine {
         frames: FrameReader::new(),
         responder: Responder::bounded(alloc, own, keeping, Bounds::UNREACHED, device),
@@ -125,7 +125,10 @@ fn served_line<C: Drop, L: Drop>(
 }
 
 /// Who watches the line: drops are named on standard error with `--verbose`, and a capture is written with `--log`.
-fn watcher(rt: &HostRuntime, service: &Service<'_>) -> Result<Log<Stderr, File>, ServiceFault> {
+fn watcher(
+    rt: &HostRuntime,
+    service: &ServeOptions<'_>,
+) -> Result<Log<Stderr, File>, ServiceFault> {
     let capture = match service.log {
         Some(name) => match fs::create(rt, name) {
             Ok(file) => Some(Port::new(file)),

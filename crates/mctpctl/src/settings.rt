@@ -6,7 +6,7 @@ ghost use Rattle.mctpctl.specs.Settings.{eid_in, keep_in, number_in, periods_in,
 
 use line_words::read_number;
 use mctp_packet::{Eid, Keep, MAX_KEEP};
-use mctpctl_command_line::{Link, WatchOptions};
+use mctpctl_command_line::{LineOptions, WatchOptions};
 use pldm_requester::{MAX_TRIES, Timing};
 
 /// The keeping time where none is given: that of a link to the requester of a usual bus owner.
@@ -51,7 +51,7 @@ pub struct Periods {
 }
 
 /// The settings that the words spell; else the name of the first option whose value is not valid.
-pub fn settings_of(link: &Link<'_>) -> Result<Settings, &'static str>
+pub fn settings_of(link: &LineOptions<'_>) -> Result<Settings, &'static str>
     ensures ok { IfOk result (λ settings. settings_in (linked link.now) ≡ Some settings) }
     ensures err { IfErr result (λ option. refused_option (linked link.now) ≡ Some option.now) }
 {

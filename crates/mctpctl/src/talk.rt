@@ -14,7 +14,7 @@ use crate::settings::{Periods, Settings, settings_of};
 use crate::state::{Earlier, StateFault, begin_state, end_state, settling_time};
 use crate::walking::walk_device;
 use crate::watching::watch_device;
-use mctpctl_command_line::{Link, Question, TRY_HELP, WalkOptions, WatchOptions};
+use mctpctl_command_line::{AskOptions, LineOptions, TRY_HELP, WalkOptions, WatchOptions};
 use mctpctl_input::Port;
 use pldm_line::{AskFault, AskingLine, BeginFault, SystemTicks, Ticks, begin_after};
 use std::alloc::Global;
@@ -38,7 +38,7 @@ pub const FAILED: u8 = 3;
 #[derive(Clone, Copy)]
 pub enum Errand<'q> {
     /// These commands.
-    Ask(&'q Question<'q>, &'q [AskedCommand]),
+    Ask(&'q AskOptions<'q>, &'q [AskedCommand]),
     /// All that it has.
     Walk(&'q WalkOptions<'q>),
     /// What its sensors and effecters say, in each of these periods.
@@ -55,7 +55,7 @@ struct Talk<'q> {
 }
 
 /// The settings that the words spell; else the exit status, once the refused option is named on standard error.
-pub fn read_settings(rt: &HostRuntime, link: &Link<'_>) -> Result<Settings, u8>
+pub fn read_settings(rt: &HostRuntime, link: &LineOptions<'_>) -> Result<Settings, u8>
     ensures ok { IfOk result (λ settings. settings_in (linked link.now) ≡ Some settings) }
     ensures err { IfErr result (λ status. status ≡ USAGE) }
 {
@@ -70,7 +70,12 @@ pub fn read_settings(rt: &HostRuntime, link: &Link<'_>) -> Result<Settings, u8>
 
 /// Does an errand on a line, with the state that a file keeps, and returns the exit status. What fails is said on
 /// standard error.
-pub fn do_errand(rt: &HostRuntime, link: &Link<'_>, settings: &Settings, errand: Errand<'_>) -> u8
+pub fn do_errand(
+    rt: &HostRuntime,
+    link: &LineOptions<'_>,
+    settings: &Settings,
+    errand: Errand<'_>,
+) -> u8
     ensures { result ≤ FAILED }
 {
     match do_with_state(rt, link, settings, errand) {
@@ -82,7 +87,7 @@ pub fn do_errand(rt: &HostRuntime, link: &Link<'_>, settings: &Settings, errand:
 /// Does an errand on a line, with the state that a file keeps, and returns the exit status.
 fn do_with_state(
     rt: &HostRuntime,
-    link: &Link<'_>,
+    link: &LineOptions<'_>,
     settings: &Settings,
     errand: Errand<'_>,
 ) -> Result<u8, StateFault>
@@ -99,7 +104,7 @@ fn do_with_state(
 }
 
 /// Does an errand over the line that is named, and returns the exit status.
-fn talk_on_line(rt: &HostRuntime, link: &Link<'_>, talk: &Talk<'_>) -> u8
+fn talk_on_line(rt: &HostRuntime, link: &LineOptions<'_>, talk: &Talk<'_>) -> u8
     ensures { result ≤ FAILED }
 {
     let Some(path) = link.line else {
@@ -212,7 +217,7 @@ fn line_failed(rt: &HostRuntime, fault: AskFault) -> u8
 }
 
 /// Says why the file of the state is of no use, and returns the exit status.
-fn state_failed(rt: &HostRuntime, link: &Link<'_>, fault: &StateFault) -> u8
+fn state_failed(rt: &HostRuntime, link: &LineOptions<'_>, fault: &StateFault) -> u8
     ensures { result ≤ FAILED }
 {
     let file = link.state.unwrap_or("");

@@ -5,7 +5,7 @@ ghost use Rattle.std.specs.Io.KnownBytes.{Appends};
 ghost use Rattle.mctp_control.specs.declared.assigned.TheConstants.{INSTANCE_IDS};
 ghost use Rattle.mctpctl.specs.AskedTexts.{IsOfPrinting};
 ghost use Rattle.mctpctl.specs.Conversations.{IsGoingOn, printed_in, shown_in};
-ghost use Rattle.mctpctl.specs.WalkedTexts.{AsksEndpoint, StepsOn, StopsNext, StopsWalking, ReportsQuery, WalksDevice, WalksThrough, described_at, goes_on, query_of, record_text, status_of_query, rows_at, standing, walk_text, walked_rows};
+ghost use Rattle.mctpctl.specs.WalkedTexts.{AsksEndpoint, StepsOn, StopsNext, StopsWalking, ReportsQuery, WalksDevice, WalksThrough, described_at, goes_on, query_of, record_text, status_of_query, rows_at, walk_view, walk_text, walked_rows};
 ghost use Rattle.pldm_line.specs.Queries.{StopsQuery};
 ghost use Rattle.mctpctl_input.specs.Ports.{inner_of};
 
@@ -186,11 +186,11 @@ pub fn ask_all<C: Ticks, R: Read, W: Write, O: Write>(
 ) -> Result<u8, AskFault>
     requires going { IsGoingOn conversation.old }
     ensures walked { IfOk result (λ status. WalksThrough status
-        (standing C.to_come R.remaining W.contents O.contents walk.old conversation.old)
-        (standing C.to_come R.remaining W.contents O.contents walk.new conversation.new)) }
+        (walk_view C.to_come R.remaining W.contents O.contents walk.old conversation.old)
+        (walk_view C.to_come R.remaining W.contents O.contents walk.new conversation.new)) }
     ensures stopped { IfErr result (λ fault. IsOfPrinting fault ⊎ StopsWalking fault
-        (standing C.to_come R.remaining W.contents O.contents walk.old conversation.old)
-        (standing C.to_come R.remaining W.contents O.contents walk.new conversation.new)) }
+        (walk_view C.to_come R.remaining W.contents O.contents walk.old conversation.old)
+        (walk_view C.to_come R.remaining W.contents O.contents walk.new conversation.new)) }
     ensures range { IfOk result (λ status. status ≤ FAILED) }
     ensures going { OnOk result (IsGoingOn conversation.new) }
 {
@@ -224,11 +224,11 @@ fn ask_next<C: Ticks, R: Read, W: Write, O: Write>(
 ) -> Result<Option<u8>, AskFault>
     requires going { IsGoingOn conversation.old }
     ensures stepped { IfOk result (λ status. StepsOn status
-        (standing C.to_come R.remaining W.contents O.contents walk.old conversation.old)
-        (standing C.to_come R.remaining W.contents O.contents walk.new conversation.new)) }
+        (walk_view C.to_come R.remaining W.contents O.contents walk.old conversation.old)
+        (walk_view C.to_come R.remaining W.contents O.contents walk.new conversation.new)) }
     ensures stopped { IfErr result (λ fault. IsOfPrinting fault ⊎ StopsNext fault
-        (standing C.to_come R.remaining W.contents O.contents walk.old conversation.old)
-        (standing C.to_come R.remaining W.contents O.contents walk.new conversation.new)) }
+        (walk_view C.to_come R.remaining W.contents O.contents walk.old conversation.old)
+        (walk_view C.to_come R.remaining W.contents O.contents walk.new conversation.new)) }
     ensures range { IfOk result (λ status. IfSome status (λ one. one ≤ FAILED)) }
     ensures going { OnOk result (IsGoingOn conversation.new) }
 {

@@ -3,8 +3,8 @@ use Rattle.std.proofs.Common.{◌≡◌, ℕ, List, [], ◌∷◌, Bool, true, f
 use Rattle.clap.proofs.OnLiterals.{clap_on_literals}
 use Rattle.clap.specs.Words.{fault_of}
 use Rattle.clap.specs.declared.error.kind.ErrorKind.TheVariants.{ArgumentConflict, DisplayHelp, MissingRequiredArgument, MissingSubcommand}
-use Rattle.mctpctl_bindings.specs.declared.binding.Binding.{Binding}
-use Rattle.mctpctl_bindings.specs.declared.binding.Binding.TheVariants.{I2c, I3c, Serial}
+use Rattle.mctpctl_input.specs.declared.binding.Binding.{Binding}
+use Rattle.mctpctl_input.specs.declared.binding.Binding.TheVariants.{I2c, I3c, Serial}
 use Rattle.mctpctl_command_line.specs.Choice.{command as the_command}
 use Rattle.mctpctl_command_line.specs.Choice.{choice_of, Asked, Linked, Questioned, to_ask, to_perform, to_serve, to_walk, to_watch}
 use Rattle.mctpctl_command_line.specs.declared.choice.Task.{Task}

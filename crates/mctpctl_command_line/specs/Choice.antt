@@ -11,13 +11,13 @@ use Rattle.clap.specs.declared.builder.command.Command.TheViews.{out-Command}
 use Rattle.clap.specs.declared.builder.range.ValueRange.{ValueRange}
 use Rattle.clap.specs.declared.error.kind.ErrorKind.{ErrorKind}
 use Rattle.clap.specs.declared.error.kind.ErrorKind.TheVariants.{DisplayHelp, DisplayVersion, OutOfMemory}
-use Rattle.mctpctl_bindings.specs.declared.binding.Binding.{Binding}
-use Rattle.mctpctl_bindings.specs.declared.binding.Binding.TheVariants.{I2c, I3c, Serial}
+use Rattle.mctpctl_input.specs.declared.binding.Binding.{Binding}
+use Rattle.mctpctl_input.specs.declared.binding.Binding.TheVariants.{I2c, I3c, Serial}
 use Rattle.mctpctl_command_line.specs.declared.choice.Choice.{Choice}
 use Rattle.mctpctl_command_line.specs.declared.choice.Choice.TheVariants as choice
-use Rattle.mctpctl_command_line.specs.declared.choice.Link.{Link}
-use Rattle.mctpctl_command_line.specs.declared.choice.Question.{Question}
-use Rattle.mctpctl_command_line.specs.declared.choice.Service.{Service}
+use Rattle.mctpctl_command_line.specs.declared.choice.LineOptions.{LineOptions}
+use Rattle.mctpctl_command_line.specs.declared.choice.AskOptions.{AskOptions}
+use Rattle.mctpctl_command_line.specs.declared.choice.ServeOptions.{ServeOptions}
 use Rattle.mctpctl_command_line.specs.declared.choice.WalkOptions.{WalkOptions}
 use Rattle.mctpctl_command_line.specs.declared.choice.TextTask.{TextTask}
 use Rattle.mctpctl_command_line.specs.declared.choice.Task.{Task}
@@ -192,11 +192,11 @@ pub data Asked : Type 0 where
   to_watch : Watched → Asked
 
 -- what a value of the code asks for
-abbrev pub served : Service → Served
+abbrev pub served : ServeOptions → Served
 served service =
     record { device = service.device.now; log = option_map (λ file. file.now) service.log; verbose = service.verbose }
 
-abbrev pub linked : Link → Linked
+abbrev pub linked : LineOptions → Linked
 linked l = record {
   line = option_map (λ text. text.now) l.line;
   own = l.own.now;
@@ -207,7 +207,7 @@ linked l = record {
   state = option_map (λ text. text.now) l.state;
 }
 
-abbrev pub questioned : Question → Questioned
+abbrev pub questioned : AskOptions → Questioned
 questioned q = record {
   link = linked q.link;
   hex = q.hex;

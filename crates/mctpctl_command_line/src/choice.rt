@@ -14,7 +14,7 @@ use crate::help::{
 use clap::error::ErrorKind;
 use clap::{Arg, ArgAction, ArgMatches, Command};
 use mctp_packet::Memory;
-use mctpctl_bindings::Binding;
+use mctpctl_input::Binding;
 use std::alloc::{AllocError, Global};
 use thiserror::Error;
 
@@ -24,9 +24,9 @@ pub enum Choice<'a> {
     /// A task over a text, on standard input.
     Text(TextTask),
     /// A device on a serial line, which is standard input and output.
-    Serve(Service<'a>),
+    Serve(ServeOptions<'a>),
     /// Commands to a device on a serial line.
-    Ask(Question<'a>),
+    Ask(AskOptions<'a>),
     /// All that a device on a serial line has.
     Walk(WalkOptions<'a>),
     /// What the sensors and effecters of a device on a serial line say, again and again.
@@ -59,7 +59,7 @@ pub struct TextTask {
 
 /// A device that is served.
 #[derive(Clone, Copy, Debug)]
-pub struct Service<'a> {
+pub struct ServeOptions<'a> {
     /// The file of its description (`--device`).
     pub device: &'a str,
     /// The file that a capture of the line is written to (`--log`).
@@ -70,7 +70,7 @@ pub struct Service<'a> {
 
 /// Who asks whom on which line, and when again: the numbers as they are spelled.
 #[derive(Clone, Copy, Debug)]
-pub struct Link<'a> {
+pub struct LineOptions<'a> {
     /// The line, a terminal (`--line`); standard input and output where there is none.
     pub line: Option<&'a str>,
     /// The endpoint ID of the requester (`--own`).
@@ -89,9 +89,9 @@ pub struct Link<'a> {
 
 /// What a device is asked.
 #[derive(Clone, Copy, Debug)]
-pub struct Question<'a> {
+pub struct AskOptions<'a> {
     /// Who asks whom.
-    pub link: Link<'a>,
+    pub link: LineOptions<'a>,
     /// Whether answers are printed in hex (`--hex`).
     pub hex: bool,
     /// The file of the commands (`--file`).
@@ -104,7 +104,7 @@ pub struct Question<'a> {
 #[derive(Clone, Copy, Debug)]
 pub struct WalkOptions<'a> {
     /// Who asks whom.
-    pub link: Link<'a>,
+    pub link: LineOptions<'a>,
     /// The file that its records are written to (`--records`).
     pub records: Option<&'a str>,
 }
@@ -113,7 +113,7 @@ pub struct WalkOptions<'a> {
 #[derive(Clone, Copy, Debug)]
 pub struct WatchOptions<'a> {
     /// Who asks whom.
-    pub link: Link<'a>,
+    pub link: LineOptions<'a>,
     /// How long a period is (`--every`).
     pub every: Option<&'a str>,
     /// How many periods there are (`--count`).
@@ -443,11 +443,11 @@ fn binding_named(name: &str) -> Option<Binding>
 }
 
 /// The device that is served, by the arguments of `serve`.
-fn service_of<'a>(matches: &ArgMatches<'a>) -> Option<Service<'a>>
+fn service_of<'a>(matches: &ArgMatches<'a>) -> Option<ServeOptions<'a>>
     ensures { option_map served result ≡ service_in (rows_of (found_of matches.now)) }
 {
     let device = value(matches, "device")?;
-    Some(Service {
+    Some(ServeOptions {
         device,
         log: value(matches, "log"),
         verbose: is_given(matches, "verbose"),
@@ -455,11 +455,11 @@ fn service_of<'a>(matches: &ArgMatches<'a>) -> Option<Service<'a>>
 }
 
 /// What a device is asked, by the arguments of `ask`.
-fn question_of<'a>(matches: &ArgMatches<'a>) -> Option<Question<'a>>
+fn question_of<'a>(matches: &ArgMatches<'a>) -> Option<AskOptions<'a>>
     ensures { option_map questioned result ≡ question_in (rows_of (found_of matches.now)) }
 {
     let link = link_of(matches)?;
-    Some(Question {
+    Some(AskOptions {
         link,
         hex: is_given(matches, "hex"),
         file: value(matches, "file"),
@@ -492,12 +492,12 @@ fn watch_options_of<'a>(matches: &ArgMatches<'a>) -> Option<WatchOptions<'a>>
 }
 
 /// Who asks whom, by the arguments of a subcommand that asks.
-fn link_of<'a>(matches: &ArgMatches<'a>) -> Option<Link<'a>>
+fn link_of<'a>(matches: &ArgMatches<'a>) -> Option<LineOptions<'a>>
     ensures { option_map linked result ≡ link_in (rows_of (found_of matches.now)) }
 {
     let own = value(matches, "own")?;
     let device = value(matches, "device")?;
-    Some(Link {
+    Some(LineOptions {
         line: value(matches, "line"),
         own,
         device,

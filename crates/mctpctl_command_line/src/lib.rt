@@ -5,6 +5,7 @@ mod choice;
 mod help;
 
 pub use choice::{
-    Choice, ChooseFault, Link, Question, Service, Task, TextTask, WalkOptions, WatchOptions, choose,
+    AskOptions, Choice, ChooseFault, LineOptions, ServeOptions, Task, TextTask, WalkOptions,
+    WatchOptions, choose,
 };
 pub use help::{NO_COMMAND, TRY_HELP};

@@ -12,9 +12,8 @@ ghost use Rattle.mctpctl_engines.specs.WholeRuns.{WritesAll, WritesFront, Writes
 use crate::message_line::push_decoded_line;
 use crate::transfers::Transfers;
 use mctp_packet::{Memory, Route};
-use mctpctl_bindings::Binding;
 use mctpctl_engines::{MessageForm, show_as};
-use mctpctl_input::{EngineFault, Port};
+use mctpctl_input::{Binding, EngineFault, Port};
 use std::alloc::Global;
 use std::io::{Read, Write};
 

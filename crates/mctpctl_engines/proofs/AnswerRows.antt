@@ -9,7 +9,7 @@ use Rattle.pldm_device.specs.declared.description.Description.{Description}
 use Rattle.pldm_device.proofs.DescriptionLiterals.{description_on_literals}
 use Rattle.pldm_wire.specs.CommandReading.{command_of}
 use Rattle.pldm_wire.specs.Requests.{request_of}
-use Rattle.pldm_wire.specs.declared.busy_time.BusyTime.TheVariants.{All}
+use Rattle.pldm_wire.specs.declared.restart_policy.RestartPolicy.TheVariants.{All}
 use Rattle.pldm_wire.specs.declared.size.Size.TheVariants.{Uint8}
 
 -- device 9, without its record: sensor 1 at 40, numeric effecter 1 at 10 of 0 to 100, state effecter 2 of two fields at

@@ -4,7 +4,7 @@ use Rattle.std.specs.Fmt.{digits}
 use Rattle.hex.proofs.OnLiterals.{hex_on_literals}
 use Rattle.mctpctl_input.specs.CaptureLine.{capture_of}
 use Rattle.mctpctl_engines.specs.LineRuns.{lines_written}
-use Rattle.mctpctl_bindings.specs.declared.binding.Binding.TheVariants.{I2c}
+use Rattle.mctpctl_input.specs.declared.binding.Binding.TheVariants.{I2c}
 use Rattle.mctpctl_engines.specs.MessageForms.{in_hex}
 use Rattle.mctpctl_engines.specs.ShowText.{seen_step, show_text}
 use Rattle.mctpctl_input.specs.declared.faults.EngineFault.TheVariants.{Line}

@@ -10,7 +10,7 @@ use Rattle.mctp_assembly.specs.declared.fed.Fed.TheVariants.{Whole, Partial, Dro
 use Rattle.mctp_packet.specs.Packets.{Packet}
 use Rattle.mctp_packet.specs.declared.packet.Route.{Route}
 use Rattle.mctp_packet.specs.declared.TheConstants.{MAX_PACKETS}
-use Rattle.mctpctl_bindings.specs.declared.binding.Binding.{Binding}
+use Rattle.mctpctl_input.specs.declared.binding.Binding.{Binding}
 use Rattle.mctpctl_engines.specs.LinePackets.{packet_on}
 use Rattle.mctpctl_input.specs.CaptureLine.{TimedPacket}
 use Rattle.mctpctl_engines.specs.LinePieces.{lines_after, run_gives}

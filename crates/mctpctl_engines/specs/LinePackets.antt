@@ -3,10 +3,10 @@ use Rattle.std.specs.Prelude.{ℕ, List, Option, None, Some, Result, Ok, Err}
 use Rattle.mctp_packet.specs.Packets.{Packet}
 use Rattle.mctp_packet.specs.Reading.{reading}
 use Rattle.mctp_packet.specs.declared.reason.Reason.{Reason}
-use Rattle.mctpctl_bindings.specs.Bindings.{packet_of}
-use Rattle.mctpctl_bindings.specs.FrameFaults.{name_of}
-use Rattle.mctpctl_bindings.specs.declared.binding.Binding.{Binding}
-use Rattle.mctpctl_bindings.specs.declared.fault.FrameFault.{FrameFault}
+use Rattle.mctpctl_input.specs.Bindings.{packet_of}
+use Rattle.mctpctl_input.specs.FrameFaults.{name_of}
+use Rattle.mctpctl_input.specs.declared.binding.Binding.{Binding}
+use Rattle.mctpctl_input.specs.declared.frame_fault.FrameFault.{FrameFault}
 use Rattle.mctpctl_texts.specs.ShownLines.{drop_text, no_frame_text}
 
 abbrev pub or_drop : Result Packet Reason → Result Packet (List ℕ)

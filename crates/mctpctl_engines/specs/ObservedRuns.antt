@@ -7,7 +7,7 @@ use Rattle.std.specs.Ordering.{nat_cmp}
 use Rattle.mctp_assembly.specs.Steps.{OpenMessages, answer, after}
 use Rattle.mctp_assembly.specs.declared.fed.Fed.{Fed}
 use Rattle.mctp_packet.specs.Packets.{Packet}
-use Rattle.mctpctl_bindings.specs.declared.binding.Binding.{Binding}
+use Rattle.mctpctl_input.specs.declared.binding.Binding.{Binding}
 use Rattle.mctpctl_engines.specs.CaptureRuns.{capture_step}
 use Rattle.mctpctl_texts.specs.ShownLines.{shown_text}
 use Rattle.mctpctl_input.specs.declared.faults.LineKind.{LineKind}

@@ -8,7 +8,7 @@ use Rattle.mctp_assembly.specs.Keys.{key_of}
 use Rattle.mctp_assembly.specs.Rows.{next}
 use Rattle.mctp_assembly.specs.declared.fed.Fed.{Fed}
 use Rattle.mctp_packet.specs.Packets.{Packet}
-use Rattle.mctpctl_bindings.specs.declared.binding.Binding.{Binding}
+use Rattle.mctpctl_input.specs.declared.binding.Binding.{Binding}
 use Rattle.mctpctl_engines.specs.LinePackets.{packet_on}
 use Rattle.mctpctl_engines.specs.MessageForms.{Message, whole_message, with_read}
 use Rattle.mctpctl_input.specs.CaptureLine.{TimedPacket}

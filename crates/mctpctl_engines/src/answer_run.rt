@@ -20,7 +20,7 @@ use mctp_packet::Moment;
 use mctpctl_input::{CaptureFault, CaptureLine, EngineFault, Port, read_capture_line};
 use mctpctl_texts::push_outcome;
 use pldm_device::{Description, SimDevice};
-use pldm_responder::{Bounds, Keeping, Responder, laws};
+use pldm_responder::{Bounds, Responder, ResponderSettings, laws};
 use std::alloc::Global;
 use std::io::{Read, Write};
 
@@ -70,7 +70,7 @@ impl Described for CaptureLines<Responder<SimDevice>> {
             busy,
             device,
         } = description;
-        let keeping = Keeping { keep, window, busy };
+        let keeping = ResponderSettings { keep, window, busy };
         let responder = Responder::bounded(alloc, Some(eid), keeping, Bounds::UNREACHED, device);
         CaptureLines::new(alloc, responder)
     }

@@ -14,8 +14,9 @@ use crate::capture_lines::{LineRoom, LineTask};
 use crate::message_form::MessageForm;
 use mctp_assembly::{Assembled, Assembler};
 use mctp_packet::{Body, Eid, Memory, PacketRef, Route, read};
-use mctpctl_bindings::{Binding, packet_of};
-use mctpctl_input::{CaptureFault, CaptureLine, EngineFault, read_capture_line};
+use mctpctl_input::{
+    Binding, CaptureFault, CaptureLine, EngineFault, packet_of, read_capture_line,
+};
 use mctpctl_texts::{write_no_frame_line, write_no_packet_line, write_packet_line};
 use std::alloc::Global;
 use std::collections::BTreeMap;

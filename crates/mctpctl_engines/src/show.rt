@@ -12,8 +12,7 @@ use crate::message_form::{InHex, MessageForm};
 use crate::observer::Observer;
 use crate::piece_loop::run_to_end;
 use mctp_assembly::laws;
-use mctpctl_bindings::Binding;
-use mctpctl_input::{EngineFault, Port};
+use mctpctl_input::{Binding, EngineFault, Port};
 use std::alloc::Global;
 use std::io::{Read, Write};
 

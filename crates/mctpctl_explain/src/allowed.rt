@@ -61,7 +61,7 @@ fn fixed_text(allowed: Allowed) -> &'static str {
         Allowed::AllowedState => "a state of the field's array in allowed",
         Allowed::HexText => "two hex digits for each byte",
         Allowed::RecordText => "a record as hex text",
-        Allowed::BusyTime => "'all' or 'sets'",
+        Allowed::RestartPolicy => "'all' or 'sets'",
         Allowed::SizeName => "the name of a data size",
         Allowed::Unit => "an integer from 0 to 255, or a unit by its name, as 'degrees_c' or 'rpm'",
         Allowed::FittingRecords => "a table with handles and room left for its records",

@@ -1,6 +1,6 @@
 //! Why the moment of a line, of a capture or of a schedule, is refused after those of the lines before it.
 
-use crate::explanation::Subject;
+use crate::explanation::Subcommand;
 use crate::quote::quoted;
 use crate::words::words_of;
 use line_words::{read_decimal, split_line};
@@ -10,7 +10,7 @@ use std::alloc::Global;
 /// The moment of a line, and the one before it that is later.
 pub(crate) fn reason_of(
     alloc: Global,
-    subject: Subject,
+    subject: Subcommand,
     line: &[u8],
     before: &[u8],
 ) -> Result<String, Memory> {
@@ -24,7 +24,7 @@ pub(crate) fn reason_of(
 }
 
 /// The moment of the last of these lines that has one.
-fn last_moment(alloc: Global, subject: Subject, lines: &[u8]) -> Result<u64, Memory> {
+fn last_moment(alloc: Global, subject: Subcommand, lines: &[u8]) -> Result<u64, Memory> {
     let mut last = 0;
     let mut rest = lines;
     while let Some((line, after)) = split_line(rest) {
@@ -40,10 +40,10 @@ fn last_moment(alloc: Global, subject: Subject, lines: &[u8]) -> Result<u64, Mem
 }
 
 /// The word of a line that is its moment.
-fn moment_word<'a>(subject: Subject, words: &[&'a [u8]]) -> Option<&'a [u8]> {
+fn moment_word<'a>(subject: Subcommand, words: &[&'a [u8]]) -> Option<&'a [u8]> {
     match (subject, words) {
-        (Subject::Run, [b"at", moment, ..]) => Some(*moment),
-        (Subject::Answer | Subject::Show, [moment, ..]) => Some(*moment),
+        (Subcommand::Run, [b"at", moment, ..]) => Some(*moment),
+        (Subcommand::Answer | Subcommand::Show, [moment, ..]) => Some(*moment),
         _ => None,
     }
 }

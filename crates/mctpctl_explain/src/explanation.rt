@@ -16,7 +16,7 @@ use std::alloc::Global;
 
 /// Whose input it is.
 #[derive(Clone, Copy, Debug, PartialEq, Eq)]
-pub enum Subject {
+pub enum Subcommand {
     /// That of `answer`: a description and a capture.
     Answer,
     /// That of `run`: a description and a schedule.
@@ -31,7 +31,7 @@ pub enum Subject {
 /// faults of the input.
 pub fn explain(
     alloc: Global,
-    subject: Subject,
+    subject: Subcommand,
     input: &[u8],
     fault: &EngineFault,
 ) -> Result<String, Memory>
@@ -60,10 +60,10 @@ fn description_in(input: &[u8]) -> &[u8] {
     }
 }
 
-fn no_divider(alloc: Global, subject: Subject) -> Result<String, Memory> {
+fn no_divider(alloc: Global, subject: Subcommand) -> Result<String, Memory> {
     let what = match subject {
-        Subject::Answer | Subject::Show => "capture",
-        Subject::Run => "schedule",
+        Subcommand::Answer | Subcommand::Show => "capture",
+        Subcommand::Run => "schedule",
     };
     Ok(format!(in alloc; "expected a line '%%' between the description and the {what}")?)
 }
@@ -72,7 +72,7 @@ fn no_divider(alloc: Global, subject: Subject) -> Result<String, Memory> {
 #[tactic(auto, using(crate::proofs::Explained::numbered))]
 fn explain_line(
     alloc: Global,
-    subject: Subject,
+    subject: Subcommand,
     input: &[u8],
     number: u64,
     kind: LineKind,
@@ -91,11 +91,11 @@ fn explain_line(
 }
 
 /// The line of this number, the lines before it, and its number in the whole input.
-fn refused_line(subject: Subject, input: &[u8], number: u64) -> Option<(&[u8], &[u8], u64)>
+fn refused_line(subject: Subcommand, input: &[u8], number: u64) -> Option<(&[u8], &[u8], u64)>
     ensures { IfSome result (λ line. number ≤ line.2) }
 {
     let (lines, lines_before) = match (subject, Divided::new(input)) {
-        (Subject::Show, _) | (_, None) => (input, 0),
+        (Subcommand::Show, _) | (_, None) => (input, 0),
         (_, Some(divided)) => (divided.lines, divided.lines_before),
     };
     let (line, before) = numbered_line(lines, number)?;
@@ -120,15 +120,15 @@ fn opening_of(kind: LineKind) -> &'static str
 /// What is wrong with a line that was refused for this, after these lines; nothing where it is not refused for this.
 fn line_reason(
     alloc: Global,
-    subject: Subject,
+    subject: Subcommand,
     line: &[u8],
     before: &[u8],
     kind: LineKind,
 ) -> Result<String, Memory> {
     match (kind, subject) {
         (LineKind::BackInTime, _) => back_in_time::reason_of(alloc, subject, line, before),
-        (_, Subject::Run) => schedule_line::reason_of(alloc, line, kind),
-        (_, Subject::Answer | Subject::Show) => capture_line::reason_of(alloc, line, kind),
+        (_, Subcommand::Run) => schedule_line::reason_of(alloc, line, kind),
+        (_, Subcommand::Answer | Subcommand::Show) => capture_line::reason_of(alloc, line, kind),
     }
 }
 
@@ -149,8 +149,8 @@ fn explain_requester(
 }
 
 /// Says which limit was passed.
-fn too_large(alloc: Global, subject: Subject, input: &[u8]) -> Result<String, Memory> {
-    if subject != Subject::Show && description_in(input).len() > MAX_DESCRIPTION {
+fn too_large(alloc: Global, subject: Subcommand, input: &[u8]) -> Result<String, Memory> {
+    if subject != Subcommand::Show && description_in(input).len() > MAX_DESCRIPTION {
         return Ok(format!(in alloc;
             "the description before the line '%%' has more than {MAX_DESCRIPTION} bytes"
         )?);

@@ -1,6 +1,6 @@
 //! What of a description is ignored.
 
-use crate::explanation::Subject;
+use crate::explanation::Subcommand;
 use crate::input_warnings::MAX_WARNINGS;
 use crate::known_keys::{LISTS, RECORDS_KEYS, TOP_KEYS, entry_keys};
 use crate::paths::path_text;
@@ -15,7 +15,7 @@ use toml::{Table, Value};
 /// What of a description is ignored: keys that it does not have, and in a run a busy time that refuses settings alone.
 pub(crate) fn ignored_keys(
     alloc: Global,
-    subject: Subject,
+    subject: Subcommand,
     description: &[u8],
     found: &mut Vec<String>,
 ) -> Result<(), Memory> {
@@ -26,7 +26,7 @@ pub(crate) fn ignored_keys(
     };
     let places = Places::read(alloc, description)?;
     warn_of_keys(alloc, &places, &table, Path::whole(), &TOP_KEYS, found)?;
-    if subject == Subject::Run && sets_alone(&table) {
+    if subject == Subcommand::Run && sets_alone(&table) {
         warn_of_busy_time(alloc, &places, found)?;
     }
     if let Some(value) = table.get("records")

@@ -3,7 +3,7 @@
 ghost use Rattle.std.specs.Prelude.{◌≤◌, IfOk, length};
 
 use crate::divided::Divided;
-use crate::explanation::Subject;
+use crate::explanation::Subcommand;
 use crate::forgotten::forgotten_moments;
 use crate::ignored::ignored_keys;
 use mctp_packet::Memory;
@@ -14,7 +14,7 @@ pub const MAX_WARNINGS: usize = 20;
 
 /// Warnings of an input, [`MAX_WARNINGS`] at most: keys of a description that are ignored, in a run also a `busy` that
 /// is, and lines of a capture that are a moment alone and look like a packet. None of them is a fault.
-pub fn warnings(alloc: Global, subject: Subject, input: &[u8]) -> Result<Vec<String>, Memory>
+pub fn warnings(alloc: Global, subject: Subcommand, input: &[u8]) -> Result<Vec<String>, Memory>
     ensures few { IfOk result (λ found. length found.items ≤ MAX_WARNINGS) }
 {
     let mut found = all_warnings(alloc, subject, input)?;
@@ -23,11 +23,11 @@ pub fn warnings(alloc: Global, subject: Subject, input: &[u8]) -> Result<Vec<Str
 }
 
 /// As [`warnings`].
-fn all_warnings(alloc: Global, subject: Subject, input: &[u8]) -> Result<Vec<String>, Memory> {
+fn all_warnings(alloc: Global, subject: Subcommand, input: &[u8]) -> Result<Vec<String>, Memory> {
     let mut found = Vec::new(alloc);
     let (lines, lines_before) = match subject {
-        Subject::Show => (input, 0),
-        Subject::Answer | Subject::Run => match Divided::new(input) {
+        Subcommand::Show => (input, 0),
+        Subcommand::Answer | Subcommand::Run => match Divided::new(input) {
             Some(divided) => {
                 ignored_keys(alloc, subject, divided.description, &mut found)?;
                 (divided.lines, divided.lines_before)
@@ -38,7 +38,7 @@ fn all_warnings(alloc: Global, subject: Subject, input: &[u8]) -> Result<Vec<Str
             }
         },
     };
-    if subject != Subject::Run {
+    if subject != Subcommand::Run {
         forgotten_moments(alloc, lines, lines_before, &mut found)?;
     }
     Ok(found)

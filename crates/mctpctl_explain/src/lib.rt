@@ -24,5 +24,5 @@ mod suggest;
 mod timing;
 mod words;
 
-pub use explanation::{Subject, explain};
+pub use explanation::{Subcommand, explain};
 pub use input_warnings::{MAX_WARNINGS, warnings};

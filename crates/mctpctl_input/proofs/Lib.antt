@@ -1,7 +1,10 @@
 pub mod CaptureRows
-pub mod DividerRows
+pub mod ChangesSeen
 pub mod DigitTables
+pub mod DividerRows
+pub mod Numbers
 pub mod PlainWords
 pub mod RefusedWords
+pub mod SerialRead
+mod WorkedFrames
 pub mod WrittenFronts
-pub mod Numbers

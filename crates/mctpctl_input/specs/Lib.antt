@@ -1,11 +1,16 @@
+pub mod Bindings
 pub mod CaptureLine
 pub mod CaptureRefusals
 pub mod FaultNumbers
 pub mod FaultTexts
+pub mod FrameFaults
 pub mod HexDigits
 pub mod KeptBytes
+pub mod Laws
 pub mod OutsideFaults
 pub mod PacketWords
 pub mod Ports
+pub mod SerialPackets
+pub mod SmbusPackets
 pub mod Statuses
 pub mod TextLines

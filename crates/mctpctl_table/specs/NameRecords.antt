@@ -5,8 +5,8 @@ use Rattle.std.specs.Prelude.{None, Some, if◌then◌else◌}
 use Rattle.pldm_pdr.specs.declared.limits.TheConstants.{RECORD_HEADER}
 use Rattle.mctpctl_table.specs.declared.record_names.TheConstants.{HEADER_VERSION, SENSOR_NAMES, EFFECTER_NAMES}
 use Rattle.mctpctl_table.specs.declared.record_names.TheConstants.{NAMES_PLACE}
-use Rattle.mctpctl_table.specs.declared.thing.Thing.{Thing}
-use Rattle.mctpctl_table.specs.declared.thing.Thing.TheVariants.{Sensor, Effecter}
+use Rattle.mctpctl_table.specs.declared.identifier.Identifier.{Identifier}
+use Rattle.mctpctl_table.specs.declared.identifier.Identifier.TheVariants.{Sensor, Effecter}
 
 -- two bytes as a number, the lower one first
 abbrev pub number_at : List ℕ → ℕ → ℕ
@@ -22,11 +22,11 @@ has_header type_number bytes =
 abbrev pub is_for : ℕ → ℕ → List ℕ → Bool
 is_for terminus id bytes = (number_at bytes 10 == terminus) && (number_at bytes 12 == id)
 
-abbrev pub is_names_record : Thing → List ℕ → Bool
+abbrev pub is_names_record : Identifier → List ℕ → Bool
 is_names_record (Sensor terminus id) bytes = has_header SENSOR_NAMES bytes && is_for terminus id bytes
 is_names_record (Effecter terminus id) bytes = has_header EFFECTER_NAMES bytes && is_for terminus id bytes
 
 -- the names of a sensor or an effecter, where a record's bytes have them
-unfoldable pub names_of : Thing → List ℕ → Option (List ℕ)
-names_of thing bytes =
-    if nat_le NAMES_PLACE (length bytes) && is_names_record thing bytes then Some (drop NAMES_PLACE bytes) else None
+unfoldable pub names_of : Identifier → List ℕ → Option (List ℕ)
+names_of identifier bytes =
+    if nat_le NAMES_PLACE (length bytes) && is_names_record identifier bytes then Some (drop NAMES_PLACE bytes) else None

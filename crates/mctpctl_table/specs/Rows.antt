@@ -19,20 +19,20 @@ use Rattle.mctpctl_table.specs.Values.{value_text}
 use Rattle.mctpctl_table.specs.declared.reading.NumericReading.{NumericReading}
 use Rattle.mctpctl_table.specs.declared.reading.StateReading.{StateReading}
 use Rattle.mctpctl_table.specs.declared.reply.Reply.{Reply}
-use Rattle.mctpctl_table.specs.declared.thing.Thing.{Thing}
-use Rattle.mctpctl_table.specs.declared.thing.Thing.TheVariants.{Sensor, Effecter}
+use Rattle.mctpctl_table.specs.declared.identifier.Identifier.{Identifier}
+use Rattle.mctpctl_table.specs.declared.identifier.Identifier.TheVariants.{Sensor, Effecter}
 
 -- The name of the sensor or effecter at a place of a composite one: the first of the first record that has its names; a
 -- dash where there is none.
-unfoldable pub name_cell : Thing → ℕ → List (List ℕ) → List ℕ
-name_cell thing place [] = 45 ∷ []
-name_cell thing place (bytes ∷ records) =
-    unwrap_or (option_map (name_text place) (names_of thing bytes)) (name_cell thing place records)
+unfoldable pub name_cell : Identifier → ℕ → List (List ℕ) → List ℕ
+name_cell identifier place [] = 45 ∷ []
+name_cell identifier place (bytes ∷ records) =
+    unwrap_or (option_map (name_text place) (names_of identifier bytes)) (name_cell identifier place records)
 
 -- the names at its first places, so many
-abbrev pub first_names : Thing → ℕ → List (List ℕ) → List (List ℕ)
-first_names thing zero records = []
-first_names thing (suc place) records = first_names thing place records ++ name_cell thing place records ∷ []
+abbrev pub first_names : Identifier → ℕ → List (List ℕ) → List (List ℕ)
+first_names identifier zero records = []
+first_names identifier (suc place) records = first_names identifier place records ++ name_cell identifier place records ∷ []
 
 abbrev pub name_at : List (List ℕ) → ℕ → List ℕ
 name_at names place = unwrap_or (slice_get names place) []
@@ -66,14 +66,14 @@ abbrev pub numeric_value : Conversion → Units → Option NumericReading → Li
 numeric_value conversion units None = 45 ∷ []
 numeric_value conversion units (Some reading) = value_text conversion units reading.value
 
-abbrev pub numeric_state : Thing → Reply → Option NumericReading → List ℕ
-numeric_state thing reply None = missing_text (numeric_kind thing) reply
-numeric_state thing reply (Some reading) = states_text thing reading.state reading.operational
+abbrev pub numeric_state : Identifier → Reply → Option NumericReading → List ℕ
+numeric_state identifier reply None = missing_text (numeric_kind identifier) reply
+numeric_state identifier reply (Some reading) = states_text identifier reading.state reading.operational
 
-unfoldable pub numeric_row : Thing → Conversion → Units → List (List ℕ) → Reply → Cells
-numeric_row thing conversion units names reply =
-    cells (what_text thing) (name_at names 0) (numeric_value conversion units (numeric_reading reply))
-    (numeric_state thing reply (numeric_reading reply))
+unfoldable pub numeric_row : Identifier → Conversion → Units → List (List ℕ) → Reply → Cells
+numeric_row identifier conversion units names reply =
+    cells (what_text identifier) (name_at names 0) (numeric_value conversion units (numeric_reading reply))
+    (numeric_state identifier reply (numeric_reading reply))
 
 -- one field of a state sensor or effecter, which has so many
 
@@ -81,30 +81,30 @@ abbrev pub field_value : PossibleStates → Option StateReading → List ℕ
 field_value states None = 45 ∷ []
 field_value states (Some reading) = state_value_text states reading.state
 
-abbrev pub field_state : Thing → Reply → Option StateReading → List ℕ
-field_state thing reply None = missing_text (state_kind thing) reply
-field_state thing reply (Some reading) = operation_text thing reading.operational
+abbrev pub field_state : Identifier → Reply → Option StateReading → List ℕ
+field_state identifier reply None = missing_text (state_kind identifier) reply
+field_state identifier reply (Some reading) = operation_text identifier reading.operational
 
-unfoldable pub field_row : Thing → ℕ → ℕ → PossibleStates → List (List ℕ) → Reply → Cells
-field_row thing count place states names reply =
-    cells (what_text thing) (name_at names place) (field_value states (state_reading count place reply))
-    (field_state thing reply (state_reading count place reply))
+unfoldable pub field_row : Identifier → ℕ → ℕ → PossibleStates → List (List ℕ) → Reply → Cells
+field_row identifier count place states names reply =
+    cells (what_text identifier) (name_at names place) (field_value states (state_reading count place reply))
+    (field_state identifier reply (state_reading count place reply))
 
 -- each field, from a place on
-unfoldable pub field_rows : Thing → ℕ → ℕ → List PossibleStates → List (List ℕ) → Reply → List Cells
-field_rows thing count place [] names reply = []
-field_rows thing count place (states ∷ sets) names reply =
-    field_row thing count place states names reply ∷ field_rows thing count (place + 1) sets names reply
+unfoldable pub field_rows : Identifier → ℕ → ℕ → List PossibleStates → List (List ℕ) → Reply → List Cells
+field_rows identifier count place [] names reply = []
+field_rows identifier count place (states ∷ sets) names reply =
+    field_row identifier count place states names reply ∷ field_rows identifier count (place + 1) sets names reply
 
 -- what a record describes, the names of its fields, and the message that came for it
 
-abbrev pub numeric_rows : Thing → Conversion → Units → List (List ℕ) → Option (List ℕ) → List Cells
-numeric_rows thing conversion units names message =
-    numeric_row thing conversion units names (reply_to (numeric_kind thing) message) ∷ []
+abbrev pub numeric_rows : Identifier → Conversion → Units → List (List ℕ) → Option (List ℕ) → List Cells
+numeric_rows identifier conversion units names message =
+    numeric_row identifier conversion units names (reply_to (numeric_kind identifier) message) ∷ []
 
-abbrev pub state_rows : Thing → List PossibleStates → List (List ℕ) → Option (List ℕ) → List Cells
-state_rows thing sets names message =
-    field_rows thing (length sets) 0 sets names (reply_to (state_kind thing) message)
+abbrev pub state_rows : Identifier → List PossibleStates → List (List ℕ) → Option (List ℕ) → List Cells
+state_rows identifier sets names message =
+    field_rows identifier (length sets) 0 sets names (reply_to (state_kind identifier) message)
 
 unfoldable pub data_rows : RecordData → List (List ℕ) → Option (List ℕ) → List Cells
 data_rows (NumericSensor sensor) names message =

@@ -14,20 +14,20 @@ use Rattle.pldm_wire.specs.declared.assigned.TheConstants.{PLATFORM, GET_SENSOR_
 use Rattle.pldm_wire.specs.declared.assigned.TheConstants.{GET_NUMERIC_EFFECTER_VALUE, GET_STATE_EFFECTER_STATES}
 use Rattle.mctpctl_table.specs.declared.reply.Reply.{Reply}
 use Rattle.mctpctl_table.specs.declared.reply.Reply.TheVariants.{Silence, Wrong, Answered}
-use Rattle.mctpctl_table.specs.declared.thing.Thing.{Thing}
-use Rattle.mctpctl_table.specs.declared.thing.Thing.TheVariants.{Sensor, Effecter}
+use Rattle.mctpctl_table.specs.declared.identifier.Identifier.{Identifier}
+use Rattle.mctpctl_table.specs.declared.identifier.Identifier.TheVariants.{Sensor, Effecter}
 
-abbrev pub what_text : Thing → List ℕ
+abbrev pub what_text : Identifier → List ℕ
 what_text (Sensor terminus id) = codes "sensor " ++ decimal id
 what_text (Effecter terminus id) = codes "effecter " ++ decimal id
 
 -- the command that asks a numeric one, and the one that asks a state one
 
-abbrev pub numeric_kind : Thing → TypeAndCommand
+abbrev pub numeric_kind : Identifier → TypeAndCommand
 numeric_kind (Sensor terminus id) = of_type PLATFORM GET_SENSOR_READING
 numeric_kind (Effecter terminus id) = of_type PLATFORM GET_NUMERIC_EFFECTER_VALUE
 
-abbrev pub state_kind : Thing → TypeAndCommand
+abbrev pub state_kind : Identifier → TypeAndCommand
 state_kind (Sensor terminus id) = of_type PLATFORM GET_STATE_SENSOR_READINGS
 state_kind (Effecter terminus id) = of_type PLATFORM GET_STATE_EFFECTER_STATES
 
@@ -36,21 +36,21 @@ abbrev pub named : Option (List ℕ) → ℕ → List ℕ
 named (Some name) state = name
 named None state = codes "state " ++ decimal state
 
-unfoldable pub operation_text : Thing → ℕ → List ℕ
+unfoldable pub operation_text : Identifier → ℕ → List ℕ
 operation_text (Sensor terminus id) state = named (sensor_operation_name state) state
 operation_text (Effecter terminus id) state = named (effecter_state_name state) state
 
 -- the operational state after a present one, unless it is 0, enabled
-abbrev pub unless_enabled : Thing → ℕ → List ℕ
-unless_enabled thing state = if state == 0 then [] else codes ", " ++ operation_text thing state
+abbrev pub unless_enabled : Identifier → ℕ → List ℕ
+unless_enabled identifier state = if state == 0 then [] else codes ", " ++ operation_text identifier state
 
 unfoldable pub present_text : ℕ → List ℕ
 present_text state = named (sensor_state_name state) state
 
 -- a present state and the operational one; without a present one, the operational state
-abbrev pub states_text : Thing → Option ℕ → ℕ → List ℕ
-states_text thing (Some state) operational = present_text state ++ unless_enabled thing operational
-states_text thing None operational = operation_text thing operational
+abbrev pub states_text : Identifier → Option ℕ → ℕ → List ℕ
+states_text identifier (Some state) operational = present_text state ++ unless_enabled identifier operational
+states_text identifier None operational = operation_text identifier operational
 
 -- why there is no value, of a command of this kind
 

@@ -3,8 +3,8 @@
 ghost use Rattle.std.specs.Prelude.{◌≡◌, ◌++◌, IfOk, OnOk, map};
 ghost use Rattle.mctpctl_table.specs.Rows.{described_of, first_names, names_for};
 
+use crate::identifier::Identifier;
 use crate::record_names::name_cell;
-use crate::thing::Thing;
 use mctp_packet::Memory;
 use pldm_pdr::{Record, RecordData};
 use std::alloc::Global;
@@ -72,32 +72,32 @@ fn names_for(
 {
     match contents {
         RecordData::NumericSensor(sensor) => {
-            let thing = Thing::Sensor {
+            let identifier = Identifier::Sensor {
                 terminus: sensor.terminus_handle,
                 id: sensor.sensor_id,
             };
-            first_names(alloc, &thing, 1, records)
+            first_names(alloc, &identifier, 1, records)
         }
         RecordData::NumericEffecter(effecter) => {
-            let thing = Thing::Effecter {
+            let identifier = Identifier::Effecter {
                 terminus: effecter.terminus_handle,
                 id: effecter.effecter_id,
             };
-            first_names(alloc, &thing, 1, records)
+            first_names(alloc, &identifier, 1, records)
         }
         RecordData::StateSensor(sensor) => {
-            let thing = Thing::Sensor {
+            let identifier = Identifier::Sensor {
                 terminus: sensor.terminus_handle,
                 id: sensor.sensor_id,
             };
-            first_names(alloc, &thing, sensor.sets.len(), records)
+            first_names(alloc, &identifier, sensor.sets.len(), records)
         }
         RecordData::StateEffecter(effecter) => {
-            let thing = Thing::Effecter {
+            let identifier = Identifier::Effecter {
                 terminus: effecter.terminus_handle,
                 id: effecter.effecter_id,
             };
-            first_names(alloc, &thing, effecter.sets.len(), records)
+            first_names(alloc, &identifier, effecter.sets.len(), records)
         }
         _ => Ok(Vec::new(alloc)),
     }
@@ -106,16 +106,16 @@ fn names_for(
 /// The names of the first fields of a sensor or an effecter, so many.
 fn first_names(
     alloc: Global,
-    thing: &Thing,
+    identifier: &Identifier,
     count: usize,
     records: &[Vec<u8>],
 ) -> Result<Vec<Vec<u8>>, Memory>
     ensures { IfOk result (λ names. map (λ name. name.items) names.items
-        ≡ first_names thing.now count (map (λ pdr. pdr.items) records.now)) }
+        ≡ first_names identifier.now count (map (λ pdr. pdr.items) records.now)) }
 {
     let mut names = Vec::new(alloc);
     for place in 0..count {
-        let name = name_cell(alloc, thing, place, records)?;
+        let name = name_cell(alloc, identifier, place, records)?;
         names.push(name)?;
     }
     Ok(names)

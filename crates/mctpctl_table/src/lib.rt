@@ -5,6 +5,7 @@ mod columns;
 mod decimal;
 mod decimal_text;
 mod described;
+mod identifier;
 mod log;
 mod marks;
 mod name;
@@ -17,7 +18,6 @@ mod rows;
 mod state_text;
 mod table;
 mod text;
-mod thing;
 mod unit;
 mod value;
 

@@ -5,9 +5,9 @@ ghost use Rattle.mctpctl_table.specs.NameRecords.{has_header, is_for, is_names_r
 ghost use Rattle.mctpctl_table.specs.Names.{name_text};
 ghost use Rattle.mctpctl_table.specs.Rows.{name_at, name_cell};
 
+use crate::identifier::Identifier;
 use crate::name::name_text;
 use crate::text::push_text;
-use crate::thing::Thing;
 use mctp_packet::Memory;
 use pldm_pdr::RECORD_HEADER;
 use std::alloc::Global;
@@ -28,14 +28,14 @@ pub(crate) const NAMES_PLACE: usize = 14;
 /// a dash where there is none.
 pub(crate) fn name_cell(
     alloc: Global,
-    thing: &Thing,
+    identifier: &Identifier,
     place: usize,
     records: &[Vec<u8>],
 ) -> Result<Vec<u8>, Memory>
-    ensures { IfOk result (λ cell. cell.items ≡ name_cell thing.now place (map (λ bytes. bytes.items) records.now)) }
+    ensures { IfOk result (λ cell. cell.items ≡ name_cell identifier.now place (map (λ bytes. bytes.items) records.now)) }
 {
     for bytes in records {
-        if let Some(cell) = name_in_record(alloc, thing, place, bytes)? {
+        if let Some(cell) = name_in_record(alloc, identifier, place, bytes)? {
             return Ok(cell);
         }
     }
@@ -64,14 +64,14 @@ pub(crate) fn dash(alloc: Global) -> Result<Vec<u8>, Memory>
 /// The name that a record's bytes have.
 fn name_in_record(
     alloc: Global,
-    thing: &Thing,
+    identifier: &Identifier,
     place: usize,
     bytes: &[u8],
 ) -> Result<Option<Vec<u8>>, Memory>
     ensures { IfOk result (λ cell. option_map (λ text. text.items) cell
-        ≡ option_map (name_text place) (names_of thing.now bytes.now)) }
+        ≡ option_map (name_text place) (names_of identifier.now bytes.now)) }
 {
-    match names_of(thing, bytes) {
+    match names_of(identifier, bytes) {
         Some(names) => {
             let text = name_text(alloc, place, names)?;
             Ok(Some(text))
@@ -82,10 +82,10 @@ fn name_in_record(
 
 /// The names of a sensor or an effecter, where a record's bytes have them.
 #[tactic(auto, unfolding(crate::specs::NameRecords::names_of))]
-fn names_of<'a>(thing: &Thing, bytes: &'a [u8]) -> Option<&'a [u8]>
-    ensures { option_map (λ names. names.now) result ≡ names_of thing.now bytes.now }
+fn names_of<'a>(identifier: &Identifier, bytes: &'a [u8]) -> Option<&'a [u8]>
+    ensures { option_map (λ names. names.now) result ≡ names_of identifier.now bytes.now }
 {
-    if bytes.len() >= NAMES_PLACE && is_names_record(thing, bytes) {
+    if bytes.len() >= NAMES_PLACE && is_names_record(identifier, bytes) {
         Some(&bytes[NAMES_PLACE..])
     } else {
         None
@@ -93,15 +93,15 @@ fn names_of<'a>(thing: &Thing, bytes: &'a [u8]) -> Option<&'a [u8]>
 }
 
 /// Whether this is a record of the names of a sensor or an effecter.
-fn is_names_record(thing: &Thing, bytes: &[u8]) -> bool
+fn is_names_record(identifier: &Identifier, bytes: &[u8]) -> bool
     requires { NAMES_PLACE ≤ length bytes.now }
-    ensures { result ≡ is_names_record thing.now bytes.now }
+    ensures { result ≡ is_names_record identifier.now bytes.now }
 {
-    match thing {
-        Thing::Sensor { terminus, id } => {
+    match identifier {
+        Identifier::Sensor { terminus, id } => {
             has_header(SENSOR_NAMES, bytes) && is_for(*terminus, *id, bytes)
         }
-        Thing::Effecter { terminus, id } => {
+        Identifier::Effecter { terminus, id } => {
             has_header(EFFECTER_NAMES, bytes) && is_for(*terminus, *id, bytes)
         }
     }

@@ -6,12 +6,12 @@ ghost use Rattle.mctpctl_table.specs.Rows.{data_rows, field_rows, field_state, f
 ghost use Rattle.mctpctl_table.specs.States.{what_text};
 ghost use Rattle.mctpctl_table.specs.Tables.{cells};
 
+use crate::identifier::Identifier;
 use crate::reading::{StateReading, numeric_reading, state_reading};
 use crate::record_names::{dash, name_at};
 use crate::reply::{Reply, reply_to};
 use crate::row::Row;
 use crate::state_text::{push_missing, push_operation, push_state_value, push_states};
-use crate::thing::Thing;
 use crate::value::push_value;
 use mctp_packet::Memory;
 use pldm_pdr::{Conversion, PossibleStates, RecordData, Units};
@@ -31,14 +31,14 @@ pub(crate) fn push_data_rows(
 {
     match contents {
         RecordData::NumericSensor(sensor) => {
-            let thing = Thing::Sensor {
+            let identifier = Identifier::Sensor {
                 terminus: sensor.terminus_handle,
                 id: sensor.sensor_id,
             };
             push_numeric_row(
                 rows,
                 alloc,
-                &thing,
+                &identifier,
                 &sensor.conversion,
                 &sensor.units,
                 names,
@@ -46,14 +46,14 @@ pub(crate) fn push_data_rows(
             )
         }
         RecordData::NumericEffecter(effecter) => {
-            let thing = Thing::Effecter {
+            let identifier = Identifier::Effecter {
                 terminus: effecter.terminus_handle,
                 id: effecter.effecter_id,
             };
             push_numeric_row(
                 rows,
                 alloc,
-                &thing,
+                &identifier,
                 &effecter.conversion,
                 &effecter.units,
                 names,
@@ -61,18 +61,18 @@ pub(crate) fn push_data_rows(
             )
         }
         RecordData::StateSensor(sensor) => {
-            let thing = Thing::Sensor {
+            let identifier = Identifier::Sensor {
                 terminus: sensor.terminus_handle,
                 id: sensor.sensor_id,
             };
-            push_state_rows(rows, alloc, &thing, &sensor.sets, names, message)
+            push_state_rows(rows, alloc, &identifier, &sensor.sets, names, message)
         }
         RecordData::StateEffecter(effecter) => {
-            let thing = Thing::Effecter {
+            let identifier = Identifier::Effecter {
                 terminus: effecter.terminus_handle,
                 id: effecter.effecter_id,
             };
-            push_state_rows(rows, alloc, &thing, &effecter.sets, names, message)
+            push_state_rows(rows, alloc, &identifier, &effecter.sets, names, message)
         }
         _ => Ok(()),
     }
@@ -82,17 +82,17 @@ pub(crate) fn push_data_rows(
 fn push_numeric_row(
     rows: &mut Vec<Row>,
     alloc: Global,
-    thing: &Thing,
+    identifier: &Identifier,
     conversion: &Conversion,
     units: &Units,
     names: &[Vec<u8>],
     message: Option<&[u8]>,
 ) -> Result<(), Memory>
-    ensures { OnOk result (rows.new.items ≡ rows.old.items ++ numeric_rows thing.now conversion.now units.now
+    ensures { OnOk result (rows.new.items ≡ rows.old.items ++ numeric_rows identifier.now conversion.now units.now
         (map (λ name. name.items) names.now) (option_map (λ bytes. bytes.now) message.entry)) }
 {
-    let reply = reply_to(&thing.numeric_command(), message);
-    let row = numeric_row(alloc, thing, conversion, units, names, &reply)?;
+    let reply = reply_to(&identifier.numeric_command(), message);
+    let row = numeric_row(alloc, identifier, conversion, units, names, &reply)?;
     rows.push(row)?;
     Ok(())
 }
@@ -101,28 +101,28 @@ fn push_numeric_row(
 #[tactic(auto, unfolding(crate::specs::Rows::numeric_row))]
 fn numeric_row(
     alloc: Global,
-    thing: &Thing,
+    identifier: &Identifier,
     conversion: &Conversion,
     units: &Units,
     names: &[Vec<u8>],
     reply: &Reply,
 ) -> Result<Row, Memory>
     ensures { IfOk result (λ row. row
-        ≡ numeric_row thing.now conversion.now units.now (map (λ name. name.items) names.now) reply.now) }
+        ≡ numeric_row identifier.now conversion.now units.now (map (λ name. name.items) names.now) reply.now) }
 {
-    let what = what_cell(alloc, thing)?;
+    let what = what_cell(alloc, identifier)?;
     let name = name_at(alloc, names, 0)?;
     let value = numeric_value(alloc, conversion, units, reply)?;
-    let state = numeric_state(alloc, thing, reply)?;
+    let state = numeric_state(alloc, identifier, reply)?;
     Ok(Row::new(what, name, value, state))
 }
 
 /// What it is.
-fn what_cell(alloc: Global, thing: &Thing) -> Result<Vec<u8>, Memory>
-    ensures { IfOk result (λ cell. cell.items ≡ what_text thing.now) }
+fn what_cell(alloc: Global, identifier: &Identifier) -> Result<Vec<u8>, Memory>
+    ensures { IfOk result (λ cell. cell.items ≡ what_text identifier.now) }
 {
     let mut cell = Vec::new(alloc);
-    thing.push_what(&mut cell)?;
+    identifier.push_what(&mut cell)?;
     Ok(cell)
 }
 
@@ -145,13 +145,13 @@ fn numeric_value(
 }
 
 /// The state of a numeric sensor or effecter.
-fn numeric_state(alloc: Global, thing: &Thing, reply: &Reply) -> Result<Vec<u8>, Memory>
-    ensures { IfOk result (λ cell. cell.items ≡ numeric_state thing.now reply.now (numeric_reading reply.now)) }
+fn numeric_state(alloc: Global, identifier: &Identifier, reply: &Reply) -> Result<Vec<u8>, Memory>
+    ensures { IfOk result (λ cell. cell.items ≡ numeric_state identifier.now reply.now (numeric_reading reply.now)) }
 {
     let mut cell = Vec::new(alloc);
     match numeric_reading(reply) {
-        Some(reading) => push_states(&mut cell, thing, reading.state, reading.operational)?,
-        None => push_missing(&mut cell, thing.numeric_command().kind(), reply)?,
+        Some(reading) => push_states(&mut cell, identifier, reading.state, reading.operational)?,
+        None => push_missing(&mut cell, identifier.numeric_command().kind(), reply)?,
     }
     Ok(cell)
 }
@@ -160,33 +160,41 @@ fn numeric_state(alloc: Global, thing: &Thing, reply: &Reply) -> Result<Vec<u8>,
 fn push_state_rows(
     rows: &mut Vec<Row>,
     alloc: Global,
-    thing: &Thing,
+    identifier: &Identifier,
     sets: &[PossibleStates],
     names: &[Vec<u8>],
     message: Option<&[u8]>,
 ) -> Result<(), Memory>
-    ensures { OnOk result (rows.new.items ≡ rows.old.items ++ state_rows thing.now sets.now
+    ensures { OnOk result (rows.new.items ≡ rows.old.items ++ state_rows identifier.now sets.now
         (map (λ name. name.items) names.now) (option_map (λ bytes. bytes.now) message.entry)) }
 {
-    let reply = reply_to(&thing.state_command(), message);
-    push_field_rows(rows, alloc, thing, sets, names, &reply)
+    let reply = reply_to(&identifier.state_command(), message);
+    push_field_rows(rows, alloc, identifier, sets, names, &reply)
 }
 
 /// Adds a row for each field.
 fn push_field_rows(
     rows: &mut Vec<Row>,
     alloc: Global,
-    thing: &Thing,
+    identifier: &Identifier,
     sets: &[PossibleStates],
     names: &[Vec<u8>],
     reply: &Reply,
 ) -> Result<(), Memory>
     ensures { OnOk result (rows.new.items ≡ rows.old.items
-        ++ field_rows thing.now (length sets.now) 0 sets.now (map (λ name. name.items) names.now) reply.now) }
+        ++ field_rows identifier.now (length sets.now) 0 sets.now (map (λ name. name.items) names.now) reply.now) }
 {
     for place in 0..sets.len() {
         let reading = state_reading(sets.len(), place, reply);
-        let row = field_row(alloc, thing, place, &sets[place], names, reply, &reading)?;
+        let row = field_row(
+            alloc,
+            identifier,
+            place,
+            &sets[place],
+            names,
+            reply,
+            &reading,
+        )?;
         rows.push(row)?;
     }
     Ok(())
@@ -195,7 +203,7 @@ fn push_field_rows(
 /// The row of a field that says this.
 fn field_row(
     alloc: Global,
-    thing: &Thing,
+    identifier: &Identifier,
     place: usize,
     states: &PossibleStates,
     names: &[Vec<u8>],
@@ -203,13 +211,13 @@ fn field_row(
     reading: &Option<StateReading>,
 ) -> Result<Row, Memory>
     ensures { IfOk result (λ row. row
-        ≡ cells (what_text thing.now) (name_at (map (λ name. name.items) names.now) place)
-        (field_value states.now reading.now) (field_state thing.now reply.now reading.now)) }
+        ≡ cells (what_text identifier.now) (name_at (map (λ name. name.items) names.now) place)
+        (field_value states.now reading.now) (field_state identifier.now reply.now reading.now)) }
 {
-    let what = what_cell(alloc, thing)?;
+    let what = what_cell(alloc, identifier)?;
     let name = name_at(alloc, names, place)?;
     let value = field_value(alloc, states, reading)?;
-    let state = field_state(alloc, thing, reply, reading)?;
+    let state = field_state(alloc, identifier, reply, reading)?;
     Ok(Row::new(what, name, value, state))
 }
 
@@ -232,16 +240,16 @@ fn field_value(
 /// The operational state of a field.
 fn field_state(
     alloc: Global,
-    thing: &Thing,
+    identifier: &Identifier,
     reply: &Reply,
     reading: &Option<StateReading>,
 ) -> Result<Vec<u8>, Memory>
-    ensures { IfOk result (λ cell. cell.items ≡ field_state thing.now reply.now reading.now) }
+    ensures { IfOk result (λ cell. cell.items ≡ field_state identifier.now reply.now reading.now) }
 {
     let mut cell = Vec::new(alloc);
     match reading {
-        Some(reading) => push_operation(&mut cell, thing, reading.operational)?,
-        None => push_missing(&mut cell, thing.state_command().kind(), reply)?,
+        Some(reading) => push_operation(&mut cell, identifier, reading.operational)?,
+        None => push_missing(&mut cell, identifier.state_command().kind(), reply)?,
     }
     Ok(cell)
 }

@@ -6,9 +6,9 @@ ghost use Rattle.std.specs.Fmt.{decimal};
 ghost use Rattle.std.specs.List.{flat_map};
 ghost use Rattle.mctpctl_table.specs.States.{listed, missing_text, named, not_read_text, operation_text, possible_from, present_text, refused_text, state_value_text, states_text, unless_enabled};
 
+use crate::identifier::Identifier;
 use crate::reply::Reply;
 use crate::text::{push_number, push_text};
-use crate::thing::Thing;
 use mctp_packet::Memory;
 use mctpctl_decode::{
     code_name, effecter_state_name, push_code, sensor_operation_name, sensor_state_name,
@@ -32,12 +32,16 @@ fn push_named(out: &mut Vec<u8>, name: Option<&str>, state: u8) -> Result<(), Me
 
 /// Adds an operational state.
 #[tactic(auto, unfolding(crate::specs::States::operation_text))]
-pub(crate) fn push_operation(out: &mut Vec<u8>, thing: &Thing, state: u8) -> Result<(), Memory>
-    ensures { OnOk result (out.new.items ≡ out.old.items ++ operation_text thing.now state) }
+pub(crate) fn push_operation(
+    out: &mut Vec<u8>,
+    identifier: &Identifier,
+    state: u8,
+) -> Result<(), Memory>
+    ensures { OnOk result (out.new.items ≡ out.old.items ++ operation_text identifier.now state) }
 {
-    match thing {
-        Thing::Sensor { .. } => push_named(out, sensor_operation_name(state), state),
-        Thing::Effecter { .. } => push_named(out, effecter_state_name(state), state),
+    match identifier {
+        Identifier::Sensor { .. } => push_named(out, sensor_operation_name(state), state),
+        Identifier::Effecter { .. } => push_named(out, effecter_state_name(state), state),
     }
 }
 
@@ -50,31 +54,31 @@ fn push_present(out: &mut Vec<u8>, state: u8) -> Result<(), Memory>
 }
 
 /// Adds an operational state after a present one, unless it is enabled.
-fn push_unless_enabled(out: &mut Vec<u8>, thing: &Thing, state: u8) -> Result<(), Memory>
-    ensures { OnOk result (out.new.items ≡ out.old.items ++ unless_enabled thing.now state) }
+fn push_unless_enabled(out: &mut Vec<u8>, identifier: &Identifier, state: u8) -> Result<(), Memory>
+    ensures { OnOk result (out.new.items ≡ out.old.items ++ unless_enabled identifier.now state) }
 {
     if state == 0 {
         return Ok(());
     }
     push_text(out, ", ")?;
-    push_operation(out, thing, state)
+    push_operation(out, identifier, state)
 }
 
 /// Adds a present state and the operational one; without a present one, the operational state.
 pub(crate) fn push_states(
     out: &mut Vec<u8>,
-    thing: &Thing,
+    identifier: &Identifier,
     present: Option<u8>,
     operational: u8,
 ) -> Result<(), Memory>
-    ensures { OnOk result (out.new.items ≡ out.old.items ++ states_text thing.now present operational) }
+    ensures { OnOk result (out.new.items ≡ out.old.items ++ states_text identifier.now present operational) }
 {
     match present {
         Some(state) => {
             push_present(out, state)?;
-            push_unless_enabled(out, thing, operational)
+            push_unless_enabled(out, identifier, operational)
         }
-        None => push_operation(out, thing, operational),
+        None => push_operation(out, identifier, operational),
     }
 }
 

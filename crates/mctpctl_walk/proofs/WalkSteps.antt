@@ -26,12 +26,12 @@ use Rattle.mctpctl_walk.specs.Walks.{Walking}
 use Rattle.mctpctl_walk.specs.declared.limits.TheConstants.{FIRST_RECORD, MAX_TYPES, NO_RECORD}
 use Rattle.mctpctl_walk.specs.declared.stage.Stage.{Stage}
 use Rattle.mctpctl_walk.specs.declared.stage.Stage.TheVariants.{Tid, Types, Versions, Commands, Repository, Records, Readings}
-use Rattle.mctpctl_walk.specs.declared.subject.Found.{Found}
+use Rattle.mctpctl_walk.specs.declared.discovered.Discovered.{Discovered}
 use Rattle.mctpctl_walk.proofs.FetchSteps.{IsStep, fetch_steps}
 use Rattle.mctpctl_walk.proofs.TypesLeft.{next_within}
 
 -- what it holds at most
-pub record IsBounded (records : List (List ℕ)) (fetch : Fetching) (found : List Found) : Type 0 where
+pub record IsBounded (records : List (List ℕ)) (fetch : Fetching) (found : List Discovered) : Type 0 where
   pub few : length records ≤ MAX_RECORDS
   pub small : All (λ pdr. length pdr ≤ MAX_RECORD_BYTES) records
   pub part : length fetch.bytes ≤ MAX_RECORD_BYTES
@@ -43,14 +43,14 @@ abbrev pub IsOther : List (List ℕ) → Fetching → Type 0
 IsOther records fetch = (records ≡ []) ⊎ ((has_handle fetch.asked records ≡ false) × (fetch.asked ≢ FIRST_RECORD))
 
 -- before the readings there is room for a record, and its fetch goes on
-pub record HasRoom (records : List (List ℕ)) (fetch : Fetching) (found : List Found) : Type 0 where
+pub record HasRoom (records : List (List ℕ)) (fetch : Fetching) (found : List Discovered) : Type 0 where
   pub room : length records < MAX_RECORDS
   pub goes : fetch.stage ≡ Going
   pub other : IsOther records fetch
   pub every : found ≡ described 0 records
 
 -- before the records there is none
-pub record IsEarly (records : List (List ℕ)) (fetch : Fetching) (found : List Found) : Type 0 where
+pub record IsEarly (records : List (List ℕ)) (fetch : Fetching) (found : List Discovered) : Type 0 where
   pub has : HasRoom records fetch found
   pub none : records ≡ []
 
@@ -85,7 +85,7 @@ abbrev GoesOn : ℕ → Walking → Type 0
 GoesOn before w = Goes before w.stage w
 
 -- without records nothing is found
-early_asked : (tid : Option ℕ) (records : List (List ℕ)) (fetch : Fetching) (found : List Found) → IsEarly records fetch found
+early_asked : (tid : Option ℕ) (records : List (List ℕ)) (fetch : Fetching) (found : List Discovered) → IsEarly records fetch found
     → found ≡ asked_of tid records
 early_asked tid records fetch found r = r.has.every ∙ ap (described 0) r.none ∙ sym (ap (asked_of tid) r.none)
 
@@ -96,7 +96,7 @@ to_readings before w b r less =
     record { bounded = b; is_at = early_asked w.tid w.records w.fetch w.found r; less = omega (arith, less) }
 
 -- no more are asked than were found
-few_asked : (handle : Option ℕ) (found : List Found) → length (filter (is_asked handle) found) ≤ length found
+few_asked : (handle : Option ℕ) (found : List Discovered) → length (filter (is_asked handle) found) ≤ length found
 few_asked handle found = rw (length-filter (is_asked handle) found) (count_by-le-length (is_asked handle) found)
 
 -- the end of the records
@@ -163,7 +163,7 @@ readings_left : (w : Walking) → IsBounded w.records w.fetch w.found → HasRoo
 readings_left w b r = omega (arith, b.part, r.room)
 
 -- a record describes one sensor or effecter at most
-one_found : (found : Option Found) → length (listed found) ≤ 1
+one_found : (found : Option Discovered) → length (listed found) ≤ 1
 one_found None = omega arith
 one_found (Some found) = omega arith
 

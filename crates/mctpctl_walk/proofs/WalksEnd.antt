@@ -14,7 +14,7 @@ use Rattle.mctpctl_walk.specs.Walks.{Walking, next_command, command_at}
 use Rattle.mctpctl_walk.specs.declared.limits.TheConstants.{MAX_COMMANDS}
 use Rattle.mctpctl_walk.specs.declared.stage.Stage.{Stage}
 use Rattle.mctpctl_walk.specs.declared.stage.Stage.TheVariants.{Tid, Types, Versions, Commands, Repository, Records, Readings}
-use Rattle.mctpctl_walk.specs.declared.subject.Found.{Found}
+use Rattle.mctpctl_walk.specs.declared.discovered.Discovered.{Discovered}
 use Rattle.mctpctl_walk.proofs.WalkSteps.{IsBounded, IsAt, left_at, AsksMore, answer_step}
 
 -- a walk that is in order, with no more commands left than so many
@@ -29,7 +29,7 @@ goes_on f true e goes none = cc
 goes_on f false e goes none = let is : is_going f.stage ≡ true = ap is_going goes in cc
 
 -- there is none past the end alone
-past_end : (found : List Found) (place : ℕ) → slice_get found place ≡ None → length found ≤ place
+past_end : (found : List Discovered) (place : ℕ) → slice_get found place ≡ None → length found ≤ place
 past_end [] place none = omega arith
 past_end (f ∷ found) zero none = cc
 past_end (f ∷ found) (suc place) none = let rest = past_end found place none in omega (arith, rest)
@@ -43,7 +43,7 @@ nothing_left w (Commands pldm_type version) r none = cc
 nothing_left w Repository r none = cc
 nothing_left w Records r none = absurd (goes_on w.fetch _ refl r.goes none)
 nothing_left w Readings r none = past (slice_get w.found (length w.readings)) refl none where
-  past : (next : Option Found) → slice_get w.found (length w.readings) ≡ next → option_map (λ (f : Found). question f.subject) next ≡ None → left_at Readings w ≡ 0
+  past : (next : Option Discovered) → slice_get w.found (length w.readings) ≡ next → option_map (λ (f : Discovered). question f.subject) next ≡ None → left_at Readings w ≡ 0
   past None e none = let end = past_end w.found (length w.readings) e in omega (arith, end)
   past (Some f) e none = cc
 
@@ -55,7 +55,7 @@ nothing_asked w (Versions pldm_type) b r none = absurd (omega (arith, none))
 nothing_asked w (Commands pldm_type version) b r none = absurd (omega (arith, none))
 nothing_asked w Repository b r none = absurd (omega (arith, none))
 nothing_asked w Records b r none = absurd (omega (arith, none, b.part, r.room))
-nothing_asked w Readings b r none = ap (option_map (λ (f : Found). question f.subject)) (slice_get_past w.found (length w.readings) (omega (arith, none)))
+nothing_asked w Readings b r none = ap (option_map (λ (f : Discovered). question f.subject)) (slice_get_past w.found (length w.readings) (omega (arith, none)))
 
 more_asked : (w : Walking) (stage : Stage) (command : Command) → command_at stage w ≡ Some command → AsksMore stage w
 more_asked w Tid command e = tt
@@ -65,7 +65,7 @@ more_asked w (Commands pldm_type version) command e = tt
 more_asked w Repository command e = tt
 more_asked w Records command e = tt
 more_asked w Readings command e = by (slice_get w.found (length w.readings)) refl e where
-  by : (next : Option Found) → slice_get w.found (length w.readings) ≡ next → option_map (λ (f : Found). question f.subject) next ≡ Some command
+  by : (next : Option Discovered) → slice_get w.found (length w.readings) ≡ next → option_map (λ (f : Discovered). question f.subject) next ≡ Some command
       → length w.readings < length w.found
   by None s e = cc
   by (Some f) s e = slice_get_within w.found (length w.readings) f s

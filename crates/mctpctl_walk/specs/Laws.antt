@@ -11,7 +11,7 @@ use Rattle.mctpctl_walk.specs.Subjects.{found_of}
 use Rattle.mctpctl_walk.specs.Termini.{asked_handle, is_asked}
 use Rattle.mctpctl_walk.specs.declared.limits.TheConstants.{MAX_COMMANDS}
 use Rattle.mctpctl_walk.specs.declared.stage.Stage.TheVariants.{Readings}
-use Rattle.mctpctl_walk.specs.declared.subject.Found.{Found}
+use Rattle.mctpctl_walk.specs.declared.discovered.Discovered.{Discovered}
 
 -- a walk after these messages, the newest first
 abbrev pub walked : List (Option (List ℕ)) → Walking
@@ -34,12 +34,12 @@ WalksAreBounded =
     × All (λ pdr. length pdr ≤ MAX_RECORD_BYTES) (walked messages).records
 
 -- what the records describe, the first of them at a place
-abbrev pub described : ℕ → List (List ℕ) → List Found
+abbrev pub described : ℕ → List (List ℕ) → List Discovered
 described place [] = []
 described place (pdr ∷ records) = listed (found_of place pdr) ++ described (suc place) records
 
 -- what they describe of the asked terminus, where the device answered this terminus ID
-abbrev pub asked_of : Option ℕ → List (List ℕ) → List Found
+abbrev pub asked_of : Option ℕ → List (List ℕ) → List Discovered
 asked_of tid records = filter (is_asked (asked_handle tid records)) (described 0 records)
 
 -- once the records were read, what it has found is what they describe of the asked terminus, in their order

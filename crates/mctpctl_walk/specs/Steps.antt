@@ -24,7 +24,7 @@ use Rattle.mctpctl_walk.specs.declared.limits.TheConstants.{NO_RECORD}
 use Rattle.mctpctl_walk.specs.declared.stage.Stage.{Stage}
 use Rattle.mctpctl_walk.specs.declared.stage.Stage.TheVariants.{Tid, Types, Versions, Commands}
 use Rattle.mctpctl_walk.specs.declared.stage.Stage.TheVariants.{Repository, Records, Readings}
-use Rattle.mctpctl_walk.specs.declared.subject.Found.{Found}
+use Rattle.mctpctl_walk.specs.declared.discovered.Discovered.{Discovered}
 
 -- The types, one after the other.
 
@@ -76,7 +76,7 @@ has_handle handle records = list_any (λ pdr. handle_of pdr == handle) records
 abbrev pub ended : Walking → Walking
 ended w = record w { stage = Readings; found = filter (is_asked (asked_handle w.tid w.records)) w.found }
 
-abbrev pub listed : Option Found → List Found
+abbrev pub listed : Option Discovered → List Discovered
 listed None = []
 listed (Some found) = found ∷ []
 

@@ -5,7 +5,7 @@ use Rattle.pldm_pdr.specs.Records.{PlatformRecord, record_of}
 use Rattle.pldm_pdr.specs.declared.data.RecordData.{RecordData}
 use Rattle.pldm_pdr.specs.declared.data.RecordData.TheVariants.{TerminusLocator}
 use Rattle.pldm_pdr.specs.declared.fault.RecordFault.{RecordFault}
-use Rattle.mctpctl_walk.specs.declared.subject.Found.{Found}
+use Rattle.mctpctl_walk.specs.declared.discovered.Discovered.{Discovered}
 
 -- whether a terminus ID is the one that the device answered
 abbrev pub is_tid : Option ℕ → ℕ → Bool
@@ -36,6 +36,6 @@ asked_handle own [] = None
 asked_handle own (pdr ∷ records) = or_else (handle_by own pdr) (asked_handle own records)
 
 -- whether something that was found is of the asked terminus: where no locator names that, all is
-abbrev pub is_asked : Option ℕ → Found → Bool
+abbrev pub is_asked : Option ℕ → Discovered → Bool
 is_asked None found = true
 is_asked (Some handle) found = found.terminus == handle

@@ -11,7 +11,7 @@ use Rattle.mctpctl_walk.specs.declared.limits.TheConstants.{FIRST_RECORD, FIRST_
 use Rattle.mctpctl_walk.specs.declared.stage.Stage.{Stage}
 use Rattle.mctpctl_walk.specs.declared.stage.Stage.TheVariants.{Tid, Types, Versions, Commands}
 use Rattle.mctpctl_walk.specs.declared.stage.Stage.TheVariants.{Repository, Records, Readings}
-use Rattle.mctpctl_walk.specs.declared.subject.Found.{Found}
+use Rattle.mctpctl_walk.specs.declared.discovered.Discovered.{Discovered}
 
 -- how far it has come; the terminus ID, the bits of the PLDM types and how many records there are, as answered; the
 -- fetch of the next record; the records so far, what they describe, at their end of the asked terminus alone, and of
@@ -23,7 +23,7 @@ pub record Walking : Type 0 where
   pub expected : Option ℕ
   pub fetch : Fetching
   pub records : List (List ℕ)
-  pub found : List Found
+  pub found : List Discovered
   pub readings : List (Option (List ℕ))
 
 -- a new walk
@@ -41,7 +41,7 @@ begun =
     }
 
 -- the first sensor or effecter that was not asked for yet
-abbrev pub next_found : Walking → Option Found
+abbrev pub next_found : Walking → Option Discovered
 next_found w = slice_get w.found (length w.readings)
 
 abbrev pub command_at : Stage → Walking → Option Command

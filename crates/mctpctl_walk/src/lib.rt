@@ -2,18 +2,18 @@
 #![tactic(auto)]
 
 mod answers;
+mod discovered;
 mod handles;
 pub mod laws;
 mod limits;
 mod message;
 mod stage;
-mod subject;
 mod terminus;
 mod types;
 mod versions;
 mod walk;
 mod whole_record;
 
+pub use discovered::{Discovered, SensorOrEffecter};
 pub use limits::MAX_COMMANDS;
-pub use subject::{Found, Subject};
 pub use walk::Walk;

@@ -3,7 +3,7 @@
 ghost use Rattle.std.specs.Prelude.{◌≡◌, filter};
 ghost use Rattle.mctpctl_walk.specs.Termini.{asked_handle, handle_by, handle_in, is_asked, is_tid};
 
-use crate::subject::Found;
+use crate::discovered::Discovered;
 use crate::whole_record::WholeRecord;
 use pldm_pdr::{RecordData, read};
 
@@ -57,14 +57,14 @@ fn is_tid(own: Option<u8>, tid: u8) -> bool
 }
 
 /// Keeps what is of the asked terminus.
-pub(crate) fn keep_asked(found: &mut Vec<Found>, handle: Option<u16>)
+pub(crate) fn keep_asked(found: &mut Vec<Discovered>, handle: Option<u16>)
     ensures { found.new.items ≡ filter (is_asked handle) found.old.items }
 {
     found.retain(move |one| is_asked(handle, one));
 }
 
 /// Whether something that was found is of the asked terminus: where no locator names that, all is.
-fn is_asked(handle: Option<u16>, found: &Found) -> bool
+fn is_asked(handle: Option<u16>, found: &Discovered) -> bool
     ensures { result ≡ is_asked handle found.now }
 {
     match handle {

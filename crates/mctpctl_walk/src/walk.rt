@@ -6,11 +6,11 @@ ghost use Rattle.mctpctl_walk.specs.Walks.{begun, keeps, next_command, reading_a
 ghost use Rattle.pldm_records.specs.Fetches.{now_of};
 
 use crate::answers::answer_to;
+use crate::discovered::{Discovered, found_of};
 use crate::handles::has_handle;
 use crate::limits::{FIRST_RECORD, FIRST_TRANSFER, NO_RECORD};
 use crate::message::Message;
 use crate::stage::Stage;
-use crate::subject::{Found, found_of};
 use crate::terminus::{asked_handle, keep_asked};
 use crate::types::{has_type, next_type};
 use crate::versions::last_version;
@@ -36,7 +36,7 @@ pub struct Walk {
     expected: Option<u32>,
     fetch: Fetch,
     records: Vec<WholeRecord>,
-    found: Vec<Found>,
+    found: Vec<Discovered>,
     readings: Vec<Option<Message>>,
 }
 
@@ -277,7 +277,7 @@ impl Walk {
     /// The sensors and effecters that the records describe, in the order of the records; once they were read, those of
     /// the asked terminus alone: the one whose handle the first valid terminus locator record of the answered terminus
     /// ID gives (DSP0248, "Terminus locator PDR"). Without such a record all count as its own.
-    pub fn found(&self) -> &[Found]
+    pub fn found(&self) -> &[Discovered]
         ensures { result.now ≡ self.now.found }
     {
         self.found.as_slice()
@@ -296,7 +296,7 @@ impl Walk {
 }
 
 /// Adds what a record describes, if it describes something. There has to be room for it.
-fn push_found(found: &mut Vec<Found>, one: Option<Found>)
+fn push_found(found: &mut Vec<Discovered>, one: Option<Discovered>)
     requires { vec_len found.old < vec_capacity found.old }
     ensures { found.new.items ≡ found.old.items ++ listed one }
 {

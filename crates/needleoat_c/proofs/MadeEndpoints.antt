@@ -8,10 +8,10 @@ use Rattle.needleoat_c.specs.Settings.{control_in, first_eid, handed_in, keeping
 use Rattle.needleoat_c.specs.declared.settings.EndpointSettings.{EndpointSettings}
 use Rattle.pldm_endpoint.specs.TwoSteps.{EndpointView}
 use Rattle.pldm_responder.specs.Ends.{eid_or_null}
-use Rattle.pldm_responder.specs.declared.keeping.Keeping.{Keeping}
-use Rattle.pldm_wire.specs.declared.handed_on.HandedOn.{HandedOn}
+use Rattle.pldm_responder.specs.declared.responder_settings.ResponderSettings.{ResponderSettings}
+use Rattle.pldm_wire.specs.declared.pass_through.PassThrough.{PassThrough}
 
-started_own : (own : ℕ) (handed : HandedOn) (k : Keeping) (first : Bool) (now : ℕ) → (started own handed k first now).own ≡ own
+started_own : (own : ℕ) (handed : PassThrough) (k : ResponderSettings) (first : Bool) (now : ℕ) → (started own handed k first now).own ≡ own
 started_own own handed k true now = refl
 started_own own handed k false now = refl
 

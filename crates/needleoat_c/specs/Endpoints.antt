@@ -14,7 +14,7 @@ use Rattle.pldm_wire.specs.Requests.{Request}
 use Rattle.pldm_wire.specs.declared.answer.Answer.{Answer}
 use Rattle.pldm_wire.specs.declared.assigned.TheConstants.{INSTANCE_IDS}
 use Rattle.pldm_wire.specs.declared.command.Command.{Command}
-use Rattle.pldm_wire.specs.declared.handed_on.HandedOn.{HandedOn}
+use Rattle.pldm_wire.specs.declared.pass_through.PassThrough.{PassThrough}
 use Rattle.pldm_wire.specs.declared.limits.TheConstants.{MAX_RESPONSE_DATA}
 use Rattle.pldm_responder.specs.Asked.{Given}
 use Rattle.pldm_responder.specs.Asked as given
@@ -28,7 +28,7 @@ use Rattle.pldm_responder.specs.OutsideAnswers.{outcome_of_answer}
 use Rattle.pldm_responder.specs.Rooms.{AreRowsAfter}
 use Rattle.pldm_responder.specs.Slots.{source_count}
 use Rattle.pldm_responder.specs.Steps.{received_arrival, restarted_held}
-use Rattle.pldm_responder.specs.declared.keeping.Keeping.{Keeping}
+use Rattle.pldm_responder.specs.declared.responder_settings.ResponderSettings.{ResponderSettings}
 use Rattle.pldm_responder.specs.declared.outcome.Outcome.{Outcome}
 use Rattle.pldm_responder.specs.declared.outcome.MessageOutcome.{MessageOutcome}
 use Rattle.pldm_responder.specs.declared.outcome.Outcome.TheVariants.{Dropped, Partial, Answered}
@@ -115,7 +115,7 @@ refusal_at now (Some inside) = if is_next now inside then 0 else BAD_MOMENT
 
 -- what it holds: at the first start that of a new one, whose last moment is this one; else that of one which restarts
 -- at this moment
-abbrev pub started : ℕ → HandedOn → Keeping → Bool → ℕ → ResponderState (Unit {0})
+abbrev pub started : ℕ → PassThrough → ResponderSettings → Bool → ℕ → ResponderState (Unit {0})
 started own handed k true now = record (held_at_first own (busy_with handed k.busy) k.window k.keep tt) { last = now }
 started own handed k false now = restarted_held (held_at_first own (busy_with handed k.busy) k.window k.keep tt) now
 
@@ -337,12 +337,12 @@ with_packets reply (Ok taken) = Ok (answering reply taken)
 with_packets reply (Err number) = Err number
 
 -- what comes of what is given for a request: it goes to the request's source, on the tag of that one's packets
-abbrev pub outcome_for : HandedOn → ℕ → ℕ → PendingCommand → Result Given ℕ → Result Outcome ℕ
+abbrev pub outcome_for : PassThrough → ℕ → ℕ → PendingCommand → Result Given ℕ → Result Outcome ℕ
 outcome_for handed own source a (Ok given) = Ok (outcome_of_answer (hands_on handed) own source a.tag a.request given)
 outcome_for handed own source a (Err number) = Err number
 
 -- the same, of what is pending, if something is
-abbrev pub outcome_at : HandedOn → ℕ → ℕ → Option PendingCommand → Result Given ℕ → Result Outcome ℕ
+abbrev pub outcome_at : PassThrough → ℕ → ℕ → Option PendingCommand → Result Given ℕ → Result Outcome ℕ
 outcome_at handed own source None given = Err NOT_PENDING
 outcome_at handed own source (Some a) given = outcome_for handed own source a given
 

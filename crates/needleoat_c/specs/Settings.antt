@@ -5,10 +5,10 @@ use Rattle.mctp_packet.specs.Ids.{IsEid, IsKeep}
 use Rattle.mctp_packet.specs.declared.TheConstants.{NULL_EID}
 use Rattle.pldm_wire.specs.HandingOn.{none_handed_on}
 use Rattle.pldm_wire.specs.declared.assigned.TheConstants.{INSTANCE_IDS}
-use Rattle.pldm_wire.specs.declared.busy_time.BusyTime.{BusyTime}
-use Rattle.pldm_wire.specs.declared.busy_time.BusyTime.TheVariants.{All, Sets}
-use Rattle.pldm_wire.specs.declared.handed_on.HandedOn.{HandedOn}
-use Rattle.pldm_responder.specs.declared.keeping.Keeping.{Keeping}
+use Rattle.pldm_wire.specs.declared.restart_policy.RestartPolicy.{RestartPolicy}
+use Rattle.pldm_wire.specs.declared.restart_policy.RestartPolicy.TheVariants.{All, Sets}
+use Rattle.pldm_wire.specs.declared.pass_through.PassThrough.{PassThrough}
+use Rattle.pldm_responder.specs.declared.responder_settings.ResponderSettings.{ResponderSettings}
 use Rattle.needleoat_c.specs.declared.kinds.TheConstants.{BUSY_ALL, BUSY_SETS}
 use Rattle.needleoat_c.specs.declared.settings.EndpointSettings.{EndpointSettings}
 
@@ -59,12 +59,12 @@ control_in s = if s.answers_control then Some (responder_in s) else None
 abbrev pub window_in : ℕ → ℕ
 window_in window = if window == 0 then INSTANCE_IDS else window
 
-abbrev pub busy_in : ℕ → BusyTime
+abbrev pub busy_in : ℕ → RestartPolicy
 busy_in busy = if busy == BUSY_SETS then Sets none_handed_on else All
 
 -- which requests are handed on as bytes
-abbrev pub handed_in : EndpointSettings → HandedOn
+abbrev pub handed_in : EndpointSettings → PassThrough
 handed_in s = record { pldm_types = s.pldm_types; unknown_commands = s.unknown_commands }
 
-abbrev pub keeping_in : EndpointSettings → Keeping
+abbrev pub keeping_in : EndpointSettings → ResponderSettings
 keeping_in s = record { keep = s.keep_ms; window = window_in s.window; busy = busy_in s.busy }

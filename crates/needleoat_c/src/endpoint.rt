@@ -29,7 +29,7 @@ use mctp_packet::{
 };
 use needleoat_forms::{AnswerFields, CommandFields, put_answer_of};
 use pldm_endpoint::{AnswerRefusal, CommandHandle, Endpoint, MessageStep, ReceiveRefusal};
-use pldm_responder::{Bounds, Keeping, MessageOutcome};
+use pldm_responder::{Bounds, MessageOutcome, ResponderSettings};
 use pldm_wire::{Answer, Command, INSTANCE_IDS};
 use std::alloc::Global;
 
@@ -41,7 +41,7 @@ use std::alloc::Global;
 pub(crate) fn start(
     alloc: Global,
     own: Option<Eid>,
-    keeping: Keeping,
+    keeping: ResponderSettings,
     settings: &EndpointSettings,
     now: Moment,
 ) -> Result<Box<BusEndpoint, Global>, Memory>
@@ -62,7 +62,7 @@ pub(crate) fn start(
 fn started(
     alloc: Global,
     own: Option<Eid>,
-    keeping: Keeping,
+    keeping: ResponderSettings,
     settings: &EndpointSettings,
     now: Moment,
 ) -> Endpoint

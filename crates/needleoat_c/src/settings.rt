@@ -7,8 +7,8 @@ ghost use Rattle.needleoat_c.specs.Settings.{IsBusyKind, IsKeeping, IsOwnEid, Is
 use crate::kinds::{BUSY_ALL, BUSY_SETS};
 use mctp_control::{ControlResponder, KeptAssignments, UUID_BYTES, VERSION_BYTES};
 use mctp_packet::{Eid, Keep, NULL_EID};
-use pldm_responder::Keeping;
-use pldm_wire::{BusyTime, HandedOn, INSTANCE_IDS, Window};
+use pldm_responder::ResponderSettings;
+use pldm_wire::{INSTANCE_IDS, PassThrough, RestartPolicy, Window};
 
 /// The settings of a new endpoint.
 #[repr(C)]
@@ -63,14 +63,14 @@ pub(crate) struct Eids {
 
 impl EndpointSettings {
     /// How it keeps answers, and what it refuses in the busy time, where these settings are in range.
-    pub(crate) fn keeping(&self) -> Option<Keeping>
+    pub(crate) fn keeping(&self) -> Option<ResponderSettings>
         ensures some { IsSome result ↔ IsKeeping self.now }
         ensures value { IfSome result (λ keeping. keeping ≡ keeping_in self.now) }
     {
         let keep = Keep::new(self.keep_ms)?;
         let window = window_of(self.window)?;
         let busy = busy_of(self.busy)?;
-        Some(Keeping { keep, window, busy })
+        Some(ResponderSettings { keep, window, busy })
     }
 
     /// Its endpoint IDs, where these settings are in range.
@@ -135,10 +135,10 @@ impl EndpointSettings {
     }
 
     /// Which requests are handed on as bytes.
-    pub(crate) fn handed_on(&self) -> HandedOn
+    pub(crate) fn handed_on(&self) -> PassThrough
         ensures { result ≡ handed_in self.now }
     {
-        HandedOn {
+        PassThrough {
             pldm_types: self.pldm_types,
             unknown_commands: self.unknown_commands,
         }
@@ -160,13 +160,13 @@ fn window_of(number: u32) -> Option<Window>
 }
 
 /// The kind of busy time that this number says.
-fn busy_of(number: u32) -> Option<BusyTime>
+fn busy_of(number: u32) -> Option<RestartPolicy>
     ensures some { IsSome result ↔ IsBusyKind number }
     ensures value { IfSome result (λ busy. busy ≡ busy_in number) }
 {
     match number {
-        BUSY_ALL => Some(BusyTime::All),
-        BUSY_SETS => Some(BusyTime::Sets(HandedOn::NONE)),
+        BUSY_ALL => Some(RestartPolicy::All),
+        BUSY_SETS => Some(RestartPolicy::Sets(PassThrough::NONE)),
         _ => None,
     }
 }

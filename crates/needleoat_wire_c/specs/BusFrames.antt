@@ -7,8 +7,8 @@ use Rattle.mctp_i2c.specs.SmbusReadings.{Received}
 use Rattle.mctp_i2c.specs.I3cFaults as i3c
 use Rattle.mctp_i2c.specs.declared.i3c.Direction.{Direction}
 use Rattle.mctp_i2c.specs.declared.i3c.Direction.TheVariants.{Write, Read}
-use Rattle.mctp_i2c.specs.declared.i3c.FrameFault.{FrameFault as I3cFault}
-use Rattle.mctp_i2c.specs.declared.smbus.FrameFault.{FrameFault as SmbusFault}
+use Rattle.mctp_i2c.specs.declared.i3c.I3cFault.{I3cFault}
+use Rattle.mctp_i2c.specs.declared.smbus.SmbusFault.{SmbusFault}
 use Rattle.mctp_i2c.specs.declared.smbus.TheConstants.{FRAME_HEADER}
 use Rattle.needleoat_forms.specs.Messages.{reported_length}
 use Rattle.needleoat_wire_c.specs.declared.bus_forms.I2cFrameFields.{I2cFrameFields}

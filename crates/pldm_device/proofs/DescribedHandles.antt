@@ -1,7 +1,7 @@
 -- No two records of a description have one handle.
 use Rattle.std.proofs.Common.{◌≡◌, ℕ, [], List, codes, Ok, subst, arith}
 use Rattle.toml.specs.Data.{Items, no_items, item, Members}
-use Rattle.pldm_wire.specs.declared.busy_time.BusyTime.{BusyTime}
+use Rattle.pldm_wire.specs.declared.restart_policy.RestartPolicy.{RestartPolicy}
 use Rattle.pldm_wire.specs.declared.state_fields.SensorStateField.{SensorStateField}
 use Rattle.pldm_records.specs.ById.{ById}
 use Rattle.pldm_device.specs.Descriptions.{description_of, device_of}
@@ -65,7 +65,7 @@ plain_differ tid document device e =
     let s7 = came (records_in document) (λ records. Ok (device_with tid s0.value s1.value s2.value s3.value s4.value s5.value s6.value records)) device s6.next in
     subst (λ (d : Device). HandlesDiffer d.records) (same_done (device_with tid s0.value s1.value s2.value s3.value s4.value s5.value s6.value s7.value) device s7.next) (stated_differ document s7.value s7.first)
 
-abbrev description_with : ℕ → ℕ → ℕ → BusyTime → Device → Description
+abbrev description_with : ℕ → ℕ → ℕ → RestartPolicy → Device → Description
 description_with eid keep window busy device = record { eid = eid; keep = keep; window = window; busy = busy; device = device }
 
 pub described_differ : DescribedHandlesDiffer

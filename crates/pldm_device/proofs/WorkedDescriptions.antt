@@ -2,7 +2,7 @@
 use Rattle.std.proofs.Common.{◌≡◌, ℕ, pos, List, [], ◌∷◌, ◌++◌, Ok, Err, codes, replicate, refl}
 use Rattle.pldm_wire.specs.Numbers.{sized}
 use Rattle.pldm_wire.specs.HandingOn.{none_handed_on}
-use Rattle.pldm_wire.specs.declared.busy_time.BusyTime.TheVariants.{All, Sets}
+use Rattle.pldm_wire.specs.declared.restart_policy.RestartPolicy.TheVariants.{All, Sets}
 use Rattle.pldm_wire.specs.declared.size.Size.TheVariants.{Uint8}
 use Rattle.simulated_device.specs.StateEffecters.{fields_of_states}
 use Rattle.pldm_device.specs.declared.description_fault.FileFault.TheVariants.{Toml, MissingKey, WrongKind, OutOfRange, BadHex, BadRecord, Duplicate}

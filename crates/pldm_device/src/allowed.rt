@@ -64,7 +64,7 @@ pub enum Allowed {
     /// The bytes of a record, which these are not.
     Record(RecordFlaw),
     /// The name of a busy time: `all` or `sets`.
-    BusyTime,
+    RestartPolicy,
     /// The name of a data size.
     SizeName,
     /// One of the names of the data sizes.

@@ -22,7 +22,7 @@ use crate::refusal::Refusal;
 use crate::sensor_entries::{numeric_sensors_in, state_sensors_in};
 use crate::version_checksum::both_versions_in;
 use mctp_packet::{Eid, Keep, MAX_EID, MAX_KEEP, MIN_EID};
-use pldm_wire::{BusyTime, Window};
+use pldm_wire::{RestartPolicy, Window};
 use std::alloc::Global;
 use toml::Table;
 
@@ -36,7 +36,7 @@ pub struct Description {
     /// For how many instance IDs of a source the endpoint keeps answers, from the key `window`.
     pub window: Window,
     /// Which requests the endpoint refuses in the busy time after a restart, from the key `busy`.
-    pub busy: BusyTime,
+    pub busy: RestartPolicy,
     /// The device behind the endpoint, from the other keys.
     pub device: SimDevice,
 }

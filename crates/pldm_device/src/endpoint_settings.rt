@@ -9,7 +9,7 @@ use crate::description_fault::FileFault;
 use crate::keys::{number_in, text_in, value_if_any};
 use crate::path::Path;
 use crate::refusal::Refusal;
-use pldm_wire::{BusyTime, HandedOn, INSTANCE_IDS, Window};
+use pldm_wire::{INSTANCE_IDS, PassThrough, RestartPolicy, Window};
 use toml::Table;
 
 /// For how many instance IDs of a source answers are kept, from the key `window`; for all of them where it is missing.
@@ -24,27 +24,27 @@ pub(crate) fn window_in(table: &Table) -> Result<Window, Refusal>
 }
 
 /// Which requests are refused in the busy time, from the key `busy`; all of them where it is missing.
-pub(crate) fn busy_in(table: &Table) -> Result<BusyTime, Refusal>
+pub(crate) fn busy_in(table: &Table) -> Result<RestartPolicy, Refusal>
     ensures { result ≡ busy_in (table_view table.now) }
 {
     match value_if_any(table, "busy") {
         Some(value) => {
             let at = Path::whole().key("busy");
-            busy_of_name(text_in(value, at, Allowed::BusyTime)?, at)
+            busy_of_name(text_in(value, at, Allowed::RestartPolicy)?, at)
         }
-        None => Ok(BusyTime::All),
+        None => Ok(RestartPolicy::All),
     }
 }
 
 /// The busy time of this name; `OutOfRange` where there is none.
-fn busy_of_name(name: &str, at: Path<'static>) -> Result<BusyTime, Refusal>
+fn busy_of_name(name: &str, at: Path<'static>) -> Result<RestartPolicy, Refusal>
     ensures { result ≡ busy_of_name name.now }
 {
     if name == "all" {
-        Ok(BusyTime::All)
+        Ok(RestartPolicy::All)
     } else if name == "sets" {
-        Ok(BusyTime::Sets(HandedOn::NONE))
+        Ok(RestartPolicy::Sets(PassThrough::NONE))
     } else {
-        Err(Refusal::new(FileFault::OutOfRange, at, Allowed::BusyTime))
+        Err(Refusal::new(FileFault::OutOfRange, at, Allowed::RestartPolicy))
     }
 }

@@ -12,7 +12,7 @@ use Rattle.pldm_wire.specs.Requests.{Request, request_of}
 use Rattle.pldm_wire.specs.declared.answer.Answer.{Answer}
 use Rattle.pldm_wire.specs.declared.assigned.TheConstants.{SUCCESS}
 use Rattle.pldm_wire.specs.declared.command.Command.{Command}
-use Rattle.pldm_wire.specs.declared.handed_on.HandedOn.{HandedOn}
+use Rattle.pldm_wire.specs.declared.pass_through.PassThrough.{PassThrough}
 use Rattle.pldm_wire.proofs.ReadCommands.{found}
 use Rattle.pldm_responder.specs.Asked.{Answered, Responded, gives}
 use Rattle.pldm_responder.specs.Performing.{Perform, Respond, Response, answer_to, changes, changes_at, changes_by, reply, reply_to, response_to, tasks_at, tasks_in, tasks_of}
@@ -36,7 +36,7 @@ request_in hands_on (Ok request) command h =
     (request, refl, is.0, is.1)
 request_in hands_on (Err reason) command h = cc
 
-module _ (handed : HandedOn) (bytes : List ℕ) (command : Command) (given : Answer) (asked : tasks_of (hands_on handed) bytes ≡ Perform command ∷ []) where
+module _ (handed : PassThrough) (bytes : List ℕ) (command : Command) (given : Answer) (asked : tasks_of (hands_on handed) bytes ≡ Perform command ∷ []) where
   -- the message that answers it
   pub replied : reply (gives (hands_on handed) (Answered given)) tt bytes ≡ answer_message (id_at bytes) (kind_of command) given
   replied =
@@ -73,7 +73,7 @@ handed_in hands_on (Ok request) asked h =
     (ap Ok is.1, ap (λ (r : Request). hands_on r.kind) (sym is.1) ∙ is.0)
 handed_in hands_on (Err reason) asked h = cc
 
-module _ (handed : HandedOn) (bytes : List ℕ) (given : Response) (asked : tasks_of (hands_on handed) bytes ≡ Respond (request_at bytes) ∷ []) where
+module _ (handed : PassThrough) (bytes : List ℕ) (given : Response) (asked : tasks_of (hands_on handed) bytes ≡ Respond (request_at bytes) ∷ []) where
   -- the message that answers it
   pub responded : reply (gives (hands_on handed) (Responded given)) tt bytes ≡ response_message 0 (id_at bytes) (kind_at bytes) given.code given.rest
   responded =

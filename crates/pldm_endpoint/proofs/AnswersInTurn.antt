@@ -18,10 +18,10 @@ use Rattle.pldm_wire.specs.CommandReading.{command_of}
 use Rattle.pldm_wire.specs.HandingOn.{hands_on, none_handed_on}
 use Rattle.pldm_wire.specs.Headers.{id_at}
 use Rattle.pldm_wire.specs.Requests.{Request, request_of}
-use Rattle.pldm_wire.specs.declared.busy_time.BusyTime.{BusyTime}
-use Rattle.pldm_wire.specs.declared.busy_time.BusyTime.TheVariants.{All}
+use Rattle.pldm_wire.specs.declared.restart_policy.RestartPolicy.{RestartPolicy}
+use Rattle.pldm_wire.specs.declared.restart_policy.RestartPolicy.TheVariants.{All}
 use Rattle.pldm_wire.specs.declared.command.Command.{Command}
-use Rattle.pldm_wire.specs.declared.handed_on.HandedOn.{HandedOn}
+use Rattle.pldm_wire.specs.declared.pass_through.PassThrough.{PassThrough}
 use Rattle.pldm_responder.specs.Arrivals.{Arrival, Drop, Part, Whole, is_expected, packets_back, passed_arrival, request_packet}
 use Rattle.pldm_responder.specs.Asked.{Given, IsAsGiven, IsGivenBy, gives, over}
 use Rattle.pldm_responder.specs.Calls.{Call, Received, Sensed, Restart, Updated, Ended, Assigned, events, fed, looked_back, outcome, with_arrival}
@@ -49,25 +49,25 @@ use Rattle.pldm_endpoint.proofs.KeyOrder.{request_keys_total}
 use Rattle.pldm_endpoint.proofs.PendingGlue.{numbered_is, one_key, whole_is}
 
 -- ---- each thing that is asked is counted
-by_command : (handed : HandedOn) (answers : ℕ → Given) (count : ℕ) (r : Result Command ℕ) → after_command (in_turn handed answers) count r ≡ count + length (tasks_in r)
+by_command : (handed : PassThrough) (answers : ℕ → Given) (count : ℕ) (r : Result Command ℕ) → after_command (in_turn handed answers) count r ≡ count + length (tasks_in r)
 by_command handed answers count (Ok command) = omega arith
 by_command handed answers count (Err code) = omega arith
 
-by_handing : (handed : HandedOn) (answers : ℕ → Given) (count : ℕ) (t : Bool) (request : Request) (r : Result Command ℕ)
+by_handing : (handed : PassThrough) (answers : ℕ → Given) (count : ℕ) (t : Bool) (request : Request) (r : Result Command ℕ)
     → (if t then count + 1 else after_command (in_turn handed answers) count r) ≡ count + length (if t then Respond request ∷ [] else tasks_in r)
 by_handing handed answers count true request r = omega arith
 by_handing handed answers count false request r = by_command handed answers count r
 
-by_request : (handed : HandedOn) (answers : ℕ → Given) (count : ℕ) (q : Result Request Reason) → next_after (in_turn handed answers) count q ≡ count + length (tasks_at (hands_on handed) q)
+by_request : (handed : PassThrough) (answers : ℕ → Given) (count : ℕ) (q : Result Request Reason) → next_after (in_turn handed answers) count q ≡ count + length (tasks_at (hands_on handed) q)
 by_request handed answers count (Ok request) = by_handing handed answers count (hands_on handed request.kind) request (command_of request.kind request.rest)
 by_request handed answers count (Err reason) = omega arith
 
-pub by_performing : (handed : HandedOn) (answers : ℕ → Given) (t : Bool) (count : ℕ) (q : Result Request Reason)
+pub by_performing : (handed : PassThrough) (answers : ℕ → Given) (t : Bool) (count : ℕ) (q : Result Request Reason)
     → (if t then next_after (in_turn handed answers) count q else count) ≡ count + length (if t then tasks_at (hands_on handed) q else [])
 by_performing handed answers true count q = by_request handed answers count q
 by_performing handed answers false count q = omega arith
 
-by_arrival : (handed : HandedOn) (answers : ℕ → Given) (held : ResponderState ℕ) (a : Arrival) → (arrival_held (in_turn handed answers) held a).state ≡ held.state + length (arrival_asks held (tasks_of (hands_on handed)) a)
+by_arrival : (handed : PassThrough) (answers : ℕ → Given) (held : ResponderState ℕ) (a : Arrival) → (arrival_held (in_turn handed answers) held a).state ≡ held.state + length (arrival_asks held (tasks_of (hands_on handed)) a)
 by_arrival handed answers held (Drop reason) = omega arith
 by_arrival handed answers held Part = omega arith
 by_arrival handed answers held (Whole m) = by_performing handed answers (performs held m) held.state (request_of m.bytes)
@@ -81,7 +81,7 @@ not_one a b apart = by (eq_by_cmp request_key_cmp a b) refl
     by false is = refl
 
 -- ---- what is kept, once the device has answered
-number_by : (handed : HandedOn) (answers : ℕ → Given) (o : Option PendingCommand) (e : Entry) → IfSome o (λ a. id_at a.request ≡ id_in e) → id_in (entry_once_given handed answers o e) ≡ id_in e
+number_by : (handed : PassThrough) (answers : ℕ → Given) (o : Option PendingCommand) (e : Entry) → IfSome o (λ a. id_at a.request ≡ id_in e) → id_in (entry_once_given handed answers o e) ≡ id_in e
 number_by handed answers None e is = refl
 number_by handed answers (Some a) e is = is
 
@@ -104,7 +104,7 @@ map_without f g n (x ∷ xs) same =
     ∙ sym (ap (list_map g) (stays id_in n x xs other)))
 
 -- ---- what is held once all is answered has the same entry where a request comes
-module _ (handed : HandedOn) (answers : ℕ → Given) (count : ℕ) (pending : PendingCommands) (held : ResponderState (Unit {0})) (ids : AreUnderTheirIds pending) where
+module _ (handed : PassThrough) (answers : ℕ → Given) (count : ℕ) (pending : PendingCommands) (held : ResponderState (Unit {0})) (ids : AreUnderTheirIds pending) where
   abbrev later : ResponderState (Unit {0})
   later = to_be handed answers pending held
 
@@ -288,7 +288,7 @@ module _ {S : Type 0} (device : Rules S) (held : ResponderState S) where
   from_is (Whole m) = refl
 
 -- what is held after an arrival differs only by what is kept
-module _ (handed : HandedOn) (held : ResponderState (Unit {0})) where
+module _ (handed : PassThrough) (held : ResponderState (Unit {0})) where
   own_stepped : (a : Arrival) → (stepped handed held a).own ≡ held.own
   own_stepped (Drop reason) = refl
   own_stepped Part = refl
@@ -407,7 +407,7 @@ two_steps_are_one handed held moment bytes count m task given arrives asked =
     in_place source false = refl
 
 -- ---- the laws
-module _ (own : ℕ) (handed : HandedOn) (busy : BusyTime) (window keep : ℕ) (answers : ℕ → Given) (count : ℕ) (pending : PendingCommands) (held : ResponderState (Unit {0})) (calls : List (Call ℕ)) (moment : ℕ) (bytes : List ℕ)
+module _ (own : ℕ) (handed : PassThrough) (busy : RestartPolicy) (window keep : ℕ) (answers : ℕ → Given) (count : ℕ) (pending : PendingCommands) (held : ResponderState (Unit {0})) (calls : List (Call ℕ)) (moment : ℕ) (bytes : List ℕ)
     (looks : assembly.FeedLooksBack) (left : IsLeftByParts own handed busy window keep answers count pending held calls) (free : IsFree pending (request_in held moment bytes)) where
   abbrev full : ResponderState ℕ
   full = over count (to_be handed answers pending held)
@@ -507,7 +507,7 @@ pub asked_looks_back : assembly.FeedLooksBack → AskedLooksBack
 asked_looks_back looks own handed busy window keep answers count pending held calls moment bytes m task left free arrives asked = asked_outcome own handed busy window keep answers count pending held calls moment bytes looks left free m task arrives asked
 
 -- ---- an answer
-module _ (handed : HandedOn) (answers : ℕ → Given) (pending : PendingCommands) (held : ResponderState (Unit {0})) (ids : AreUnderTheirIds pending) (source id number : ℕ) (a : PendingCommand)
+module _ (handed : PassThrough) (answers : ℕ → Given) (pending : PendingCommands) (held : ResponderState (Unit {0})) (ids : AreUnderTheirIds pending) (source id number : ℕ) (a : PendingCommand)
     (is : map.get pending (request_key source id) ≡ Some a) (number_is : a.number ≡ number) where
   abbrev without_it : PendingCommands
   without_it = map.remove pending (request_key source id)
@@ -607,7 +607,7 @@ none_comes bytes =
     let dropped = drops_without_eid (in_turn none_handed_on (λ _. unasked)) (held_at_first NULL_EID All 1 1 0) 0 bytes refl in
     (dropped.0, ap (λ r. passed is_expected (unless r (packet_of bytes))) dropped.1)
 
-module _ (busy : BusyTime) (window keep : ℕ) where
+module _ (busy : RestartPolicy) (window keep : ℕ) where
   assigned_recent : (t : Bool) (moment : ℕ) (h : List (Event ℕ)) (source : ℕ) → (t ≡ true → recent busy window keep h source ≡ []) → recent busy window keep (if t then h else Restarted moment ∷ h) source ≡ []
   assigned_recent true moment h source none = none refl
   assigned_recent false moment h source none = refl
@@ -629,7 +629,7 @@ map_none : {A B : Type 0} (f : A → B) (xs : List A) → list_map f xs ≡ [] �
 map_none f [] none = refl
 map_none f (x ∷ xs) none = cc
 
-none_kept : (own : ℕ) (handed : HandedOn) (busy : BusyTime) (window keep : ℕ) (answers : ℕ → Given) (count : ℕ) (pending : PendingCommands) (held : ResponderState (Unit {0})) (calls : List (Call ℕ))
+none_kept : (own : ℕ) (handed : PassThrough) (busy : RestartPolicy) (window keep : ℕ) (answers : ℕ → Given) (count : ℕ) (pending : PendingCommands) (held : ResponderState (Unit {0})) (calls : List (Call ℕ))
     → IsLeftByParts own handed busy window keep answers count pending held calls → own ≡ NULL_EID → (source : ℕ) → held.kept source ≡ []
 none_kept own handed busy window keep answers count pending held calls left none source =
     map_none (λ e. entry_once_given handed answers (map.get pending (request_key source (id_in e))) e) (held.kept source)
@@ -639,7 +639,7 @@ none_kept own handed busy window keep answers count pending held calls left none
     ∙ ap (list_map (entry_at (in_turn handed answers) busy window keep 0)) (take-nil {A = Place ℕ} window))
 
 -- t where there was no endpoint ID before: then nothing is kept
-assigned_alike : (t : Bool) (handed : HandedOn) (answers : ℕ → Given) (count : ℕ) (pending : PendingCommands) (held : ResponderState (Unit {0})) (moment eid : ℕ) → (t ≡ true → (source : ℕ) → held.kept source ≡ [])
+assigned_alike : (t : Bool) (handed : PassThrough) (answers : ℕ → Given) (count : ℕ) (pending : PendingCommands) (held : ResponderState (Unit {0})) (moment eid : ℕ) → (t ≡ true → (source : ℕ) → held.kept source ≡ [])
     → IsHeld (over count (to_be handed answers map.empty (record (if t then held else restarted_held held moment) { own = eid; open_messages = map.empty; last = moment })))
     (record (if t then over count (to_be handed answers pending held) else restarted_held (over count (to_be handed answers pending held)) moment) { own = eid; open_messages = map.empty; last = moment })
 assigned_alike true handed answers count pending held moment eid none = record {

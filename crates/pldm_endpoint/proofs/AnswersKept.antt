@@ -1,7 +1,7 @@
 -- What an endpoint is after the device has given what is pending.
 use Rattle.std.proofs.Common.{◌≡◌, ℕ, Bool, ◌==◌, true, List, Option, Some, if◌then◌else◌, refl, sym, ap, ◌∙◌, subst}
 use Rattle.pldm_wire.specs.HandingOn.{hands_on}
-use Rattle.pldm_wire.specs.declared.handed_on.HandedOn.{HandedOn}
+use Rattle.pldm_wire.specs.declared.pass_through.PassThrough.{PassThrough}
 use Rattle.pldm_responder.specs.Answering.{answering}
 use Rattle.pldm_responder.specs.Arrivals.{message_of, way_back}
 use Rattle.pldm_responder.specs.Asked.{Given, gives}
@@ -15,7 +15,7 @@ use Rattle.pldm_endpoint.specs.TwoSteps.{IsAnsweredBy, answered_held}
 use Rattle.pldm_endpoint.specs.declared.pending_commands.PendingCommand.{PendingCommand}
 use Rattle.pldm_endpoint.specs.declared.step.CommandHandle.{CommandHandle}
 
-module _ (handed : HandedOn) (handle : CommandHandle) (given : Given) (a : PendingCommand) (o : Option PendingCommand) (is : o ≡ Some a)
+module _ (handed : PassThrough) (handle : CommandHandle) (given : Given) (a : PendingCommand) (o : Option PendingCommand) (is : o ≡ Some a)
     (bytes : List ℕ) (bytes_are : bytes ≡ reply (gives (hands_on handed) given) tt a.request) where
   -- what goes out
   pub goes_out : (own : ℕ) (changed : Bool) → changed ≡ changes (gives (hands_on handed) given) tt a.request

@@ -8,9 +8,9 @@ use Rattle.pldm_wire.specs.Answers.{answer_message}
 use Rattle.pldm_wire.specs.CommandReading.{command_of}
 use Rattle.pldm_wire.specs.HandingOn.{hands_on}
 use Rattle.pldm_wire.specs.Requests.{Request, request_of}
-use Rattle.pldm_wire.specs.declared.busy_time.BusyTime.{BusyTime}
+use Rattle.pldm_wire.specs.declared.restart_policy.RestartPolicy.{RestartPolicy}
 use Rattle.pldm_wire.specs.declared.command.Command.{Command}
-use Rattle.pldm_wire.specs.declared.handed_on.HandedOn.{HandedOn}
+use Rattle.pldm_wire.specs.declared.pass_through.PassThrough.{PassThrough}
 use Rattle.pldm_responder.specs.Arrivals.{packets_back}
 use Rattle.pldm_responder.specs.Asked.{Given, gives, response_in}
 use Rattle.pldm_responder.specs.Askings.{askings}
@@ -43,7 +43,7 @@ more_asked : (tasks before : List Task) → length (tasks ++ before) ≡ length 
 more_asked [] before = omega arith
 more_asked (task ∷ tasks) before = omega (arith, more_asked tasks before)
 
-module _ (handed : HandedOn) (busy : BusyTime) (window keep : ℕ) (answers : ℕ → Given) where
+module _ (handed : PassThrough) (busy : RestartPolicy) (window keep : ℕ) (answers : ℕ → Given) where
   pub counted : (events : List (Event ℕ)) → is_unchanged events ≡ true → performed (in_turn handed answers) busy window keep 0 events ≡ length (askings (tasks_of (hands_on handed)) busy window keep events)
   counted [] unchanged = refl
   counted (Set id value ∷ events) unchanged = counted events unchanged
@@ -91,15 +91,15 @@ answers_its_origin answers e calls source id a place left is from =
         sym (ap (λ n. Some (entry_once_given e.handed_on answers (map.get e.pending (request_key source n)) x)) found.1 ∙ ap (λ o. Some (entry_once_given e.handed_on answers o x)) is) ∙ h
 
 -- ---- a copy
-by_command : (handed : HandedOn) (answers : ℕ → Given) (count : ℕ) (r : Result Command ℕ) → answer_to (in_turn handed answers) count r ≡ answer_to (gives (hands_on handed) (answers count)) tt r
+by_command : (handed : PassThrough) (answers : ℕ → Given) (count : ℕ) (r : Result Command ℕ) → answer_to (in_turn handed answers) count r ≡ answer_to (gives (hands_on handed) (answers count)) tt r
 by_command handed answers count (Ok command) = refl
 by_command handed answers count (Err code) = refl
 
-by_request : (handed : HandedOn) (answers : ℕ → Given) (count : ℕ) (q : Result Request Reason) → reply_to (in_turn handed answers) count q ≡ reply_to (gives (hands_on handed) (answers count)) tt q
+by_request : (handed : PassThrough) (answers : ℕ → Given) (count : ℕ) (q : Result Request Reason) → reply_to (in_turn handed answers) count q ≡ reply_to (gives (hands_on handed) (answers count)) tt q
 by_request handed answers count (Ok request) = ap (λ a. if hands_on handed request.kind then response_to request (response_in (answers count)) else answer_message request.id request.kind a) (by_command handed answers count (command_of request.kind request.rest))
 by_request handed answers count (Err reason) = refl
 
-given_at : (handed : HandedOn) (busy : BusyTime) (window keep : ℕ) (answers : ℕ → Given) (place : Place ℕ) → is_unchanged place.before ≡ true
+given_at : (handed : PassThrough) (busy : RestartPolicy) (window keep : ℕ) (answers : ℕ → Given) (place : Place ℕ) → is_unchanged place.before ≡ true
     → reply_at (in_turn handed answers) busy window keep 0 place ≡ reply (gives (hands_on handed) (answers (length (askings (tasks_of (hands_on handed)) busy window keep place.before)))) tt place.message.bytes
 given_at handed busy window keep answers place unchanged =
     ap (λ count. reply (in_turn handed answers) count place.message.bytes) (counted handed busy window keep answers place.before unchanged)
@@ -110,7 +110,7 @@ expected_by false true other fresh kept serves is = refl
 expected_by true copy other fresh kept serves is = cc
 expected_by false false other fresh kept serves is = cc
 
-at_origin : (handed : HandedOn) (busy : BusyTime) (window keep : ℕ) (answers : ℕ → Given) (events : List (Event ℕ)) (m : Message) (place : Place ℕ) (t : Bool) → t ≡ true
+at_origin : (handed : PassThrough) (busy : RestartPolicy) (window keep : ℕ) (answers : ℕ → Given) (events : List (Event ℕ)) (m : Message) (place : Place ℕ) (t : Bool) → t ≡ true
     → (if t then reply_at (in_turn handed answers) busy window keep 0 place else reply (in_turn handed answers) (performed (in_turn handed answers) busy window keep 0 events) m.bytes) ≡ reply_at (in_turn handed answers) busy window keep 0 place
 at_origin handed busy window keep answers events m place true is = refl
 at_origin handed busy window keep answers events m place false is = cc

@@ -4,8 +4,8 @@ use Rattle.std.specs.Prelude.{map as list_map}
 use Rattle.std.proofs.Common.{◌≡◌, ℕ, List, [], ◌∷◌, Option, Some, None}
 use Rattle.mctp_assembly.specs.declared.key.Key.{Key}
 use Rattle.pldm_wire.specs.HandingOn.{hands_on}
-use Rattle.pldm_wire.specs.declared.busy_time.BusyTime.{BusyTime}
-use Rattle.pldm_wire.specs.declared.handed_on.HandedOn.{HandedOn}
+use Rattle.pldm_wire.specs.declared.restart_policy.RestartPolicy.{RestartPolicy}
+use Rattle.pldm_wire.specs.declared.pass_through.PassThrough.{PassThrough}
 use Rattle.pldm_responder.specs.Asked.{Given, gives, over}
 use Rattle.pldm_responder.specs.Calls.{Call, Received, Restart, Ended, Assigned, outcome}
 use Rattle.pldm_responder.specs.Events.{Message}
@@ -22,7 +22,7 @@ use Rattle.pldm_endpoint.specs.declared.pending_commands.PendingCommand.{Pending
 use Rattle.pldm_endpoint.specs.declared.step.CommandHandle.{CommandHandle}
 
 -- what is held, once the device has given all that is pending
-abbrev pub to_be : HandedOn → (ℕ → Given) → PendingCommands → ResponderState (Unit {0}) → ResponderState (Unit {0})
+abbrev pub to_be : PassThrough → (ℕ → Given) → PendingCommands → ResponderState (Unit {0}) → ResponderState (Unit {0})
 to_be handed answers pending held = record held {
   kept = λ source.
       list_map (λ entry. entry_once_given handed answers (map.get pending (request_key source (id_in entry))) entry)
@@ -30,7 +30,7 @@ to_be handed answers pending held = record held {
 }
 
 -- what is held is what the calls leave, but for what the device is still to give
-pub record IsLeftByParts (own : ℕ) (handed : HandedOn) (busy : BusyTime) (window keep : ℕ) (answers : ℕ → Given)
+pub record IsLeftByParts (own : ℕ) (handed : PassThrough) (busy : RestartPolicy) (window keep : ℕ) (answers : ℕ → Given)
     (count : ℕ) (pending : PendingCommands) (held : ResponderState (Unit {0})) (calls : List (Call ℕ)) : Type 0 where
   pub ids : AreUnderTheirIds pending
   pub left : IsLeftBy (in_turn handed answers) own busy window keep 0 (over count (to_be handed answers pending held)) calls
@@ -43,7 +43,7 @@ IsFree pending (Some m) = map.get pending (request_key_of m) ≡ None
 -- bytes that are not refused leave what the longer list leaves, whether they ask something or not
 abbrev pub ReceivedByParts : Type 0
 ReceivedByParts =
-    (own : ℕ) (handed : HandedOn) (busy : BusyTime) (window keep : ℕ) (answers : ℕ → Given)
+    (own : ℕ) (handed : PassThrough) (busy : RestartPolicy) (window keep : ℕ) (answers : ℕ → Given)
     (count : ℕ) (pending : PendingCommands) (held : ResponderState (Unit {0}))
     (calls : List (Call ℕ)) (moment : ℕ) (bytes : List ℕ)
     → IsLeftByParts own handed busy window keep answers count pending held calls → IsFree pending (request_in held moment bytes)
@@ -54,7 +54,7 @@ ReceivedByParts =
 -- where they ask nothing, they return what looking back over all calls says
 abbrev pub UnaskedLooksBack : Type 0
 UnaskedLooksBack =
-    (own : ℕ) (handed : HandedOn) (busy : BusyTime) (window keep : ℕ) (answers : ℕ → Given)
+    (own : ℕ) (handed : PassThrough) (busy : RestartPolicy) (window keep : ℕ) (answers : ℕ → Given)
     (count : ℕ) (pending : PendingCommands) (held : ResponderState (Unit {0}))
     (calls : List (Call ℕ)) (moment : ℕ) (bytes : List ℕ)
     → IsLeftByParts own handed busy window keep answers count pending held calls → IsFree pending (request_in held moment bytes)
@@ -65,7 +65,7 @@ UnaskedLooksBack =
 -- where they ask something, what is given for it is what looking back says that these bytes return
 abbrev pub AskedLooksBack : Type 0
 AskedLooksBack =
-    (own : ℕ) (handed : HandedOn) (busy : BusyTime) (window keep : ℕ) (answers : ℕ → Given)
+    (own : ℕ) (handed : PassThrough) (busy : RestartPolicy) (window keep : ℕ) (answers : ℕ → Given)
     (count : ℕ) (pending : PendingCommands) (held : ResponderState (Unit {0}))
     (calls : List (Call ℕ)) (moment : ℕ) (bytes : List ℕ) (m : Message) (task : Task)
     → IsLeftByParts own handed busy window keep answers count pending held calls → IsFree pending (request_in held moment bytes)
@@ -76,7 +76,7 @@ AskedLooksBack =
 -- what the device gives leaves what the calls before leave: it changes no more than that it is there
 abbrev pub AnsweredByParts : Type 0
 AnsweredByParts =
-    (own : ℕ) (handed : HandedOn) (busy : BusyTime) (window keep : ℕ) (answers : ℕ → Given)
+    (own : ℕ) (handed : PassThrough) (busy : RestartPolicy) (window keep : ℕ) (answers : ℕ → Given)
     (count : ℕ) (pending : PendingCommands) (held : ResponderState (Unit {0}))
     (calls : List (Call ℕ)) (handle : CommandHandle) (a : PendingCommand)
     → IsLeftByParts own handed busy window keep answers count pending held calls → pending_at pending handle ≡ Some a
@@ -86,7 +86,7 @@ AnsweredByParts =
 -- a restart: what is pending counts as performed, with answers that nobody got
 abbrev pub RestartedByParts : Type 0
 RestartedByParts =
-    (own : ℕ) (handed : HandedOn) (busy : BusyTime) (window keep : ℕ) (answers : ℕ → Given)
+    (own : ℕ) (handed : PassThrough) (busy : RestartPolicy) (window keep : ℕ) (answers : ℕ → Given)
     (count : ℕ) (pending : PendingCommands) (held : ResponderState (Unit {0}))
     (calls : List (Call ℕ)) (moment : ℕ)
     → IsLeftByParts own handed busy window keep answers count pending held calls
@@ -95,7 +95,7 @@ RestartedByParts =
 -- another endpoint ID is assigned: what is pending counts as performed, as at a restart
 abbrev pub AssignedByParts : Type 0
 AssignedByParts =
-    (own : ℕ) (handed : HandedOn) (busy : BusyTime) (window keep : ℕ) (answers : ℕ → Given)
+    (own : ℕ) (handed : PassThrough) (busy : RestartPolicy) (window keep : ℕ) (answers : ℕ → Given)
     (count : ℕ) (pending : PendingCommands) (held : ResponderState (Unit {0}))
     (calls : List (Call ℕ)) (moment eid : ℕ)
     → IsLeftByParts own handed busy window keep answers count pending held calls
@@ -105,7 +105,7 @@ AssignedByParts =
 -- an open message that ends: to its sender it is a lost packet
 abbrev pub EndedByParts : Type 0
 EndedByParts =
-    (own : ℕ) (handed : HandedOn) (busy : BusyTime) (window keep : ℕ) (answers : ℕ → Given)
+    (own : ℕ) (handed : PassThrough) (busy : RestartPolicy) (window keep : ℕ) (answers : ℕ → Given)
     (count : ℕ) (pending : PendingCommands) (held : ResponderState (Unit {0}))
     (calls : List (Call ℕ)) (key : Key)
     → IsLeftByParts own handed busy window keep answers count pending held calls
@@ -114,13 +114,13 @@ EndedByParts =
 -- a new endpoint
 abbrev pub NewByParts : Type 0
 NewByParts =
-    (own : ℕ) (handed : HandedOn) (busy : BusyTime) (window keep : ℕ) (answers : ℕ → Given)
+    (own : ℕ) (handed : PassThrough) (busy : RestartPolicy) (window keep : ℕ) (answers : ℕ → Given)
     → IsLeftByParts own handed busy window keep answers 0 map.empty (held_at_first own busy window keep tt) []
 
 -- what holds the same is left by the same calls
 abbrev pub SameByParts : Type 0
 SameByParts =
-    (own : ℕ) (handed : HandedOn) (busy : BusyTime) (window keep : ℕ) (answers : ℕ → Given)
+    (own : ℕ) (handed : PassThrough) (busy : RestartPolicy) (window keep : ℕ) (answers : ℕ → Given)
     (count : ℕ) (pending : PendingCommands) (new held : ResponderState (Unit {0}))
     (calls : List (Call ℕ))
     → IsHeld new held → IsLeftByParts own handed busy window keep answers count pending held calls

@@ -4,8 +4,8 @@ use Rattle.std.proofs.Common.{◌≡◌, ℕ, ◌⊎◌, inl, inr, Bool, true, f
 use Rattle.mctp_assembly.specs.Laws as assembly
 use Rattle.mctp_assembly.specs.declared.key.Key.{Key}
 use Rattle.pldm_wire.specs.HandingOn.{hands_on}
-use Rattle.pldm_wire.specs.declared.busy_time.BusyTime.{BusyTime}
-use Rattle.pldm_wire.specs.declared.handed_on.HandedOn.{HandedOn}
+use Rattle.pldm_wire.specs.declared.restart_policy.RestartPolicy.{RestartPolicy}
+use Rattle.pldm_wire.specs.declared.pass_through.PassThrough.{PassThrough}
 use Rattle.pldm_responder.specs.Asked.{Given, gives}
 use Rattle.pldm_responder.specs.Calls.{Assigned, Call, Received, Restart, outcome}
 use Rattle.pldm_responder.specs.Events.{Message}
@@ -36,7 +36,7 @@ in_parts : (answers : ℕ → Given) (e : EndpointView) (calls : List (Call ℕ)
     → IsLeftByParts e.end.own e.handed_on e.end.busy e.end.rows.window e.end.keep answers e.count e.pending (held_in e) calls
 in_parts answers e calls h = record { ids = h.ids; left = h.left }
 
-module _ (answers : ℕ → Given) (e : EndpointView) (own : ℕ) (busy : BusyTime) (window keep : ℕ) (calls : List (Call ℕ)) where
+module _ (answers : ℕ → Given) (e : EndpointView) (own : ℕ) (busy : RestartPolicy) (window keep : ℕ) (calls : List (Call ℕ)) where
   at_own : IsLeftByParts own e.handed_on busy window keep answers e.count e.pending (held_in e) calls → IsLeftInTurn answers e calls
   at_own h =
       let held : ResponderState ℕ = held_once_given answers e in
@@ -51,7 +51,7 @@ module _ (answers : ℕ → Given) (e : EndpointView) (own : ℕ) (busy : BusyTi
       }
 
   -- an endpoint whose parts these are
-  pub together : (handed : HandedOn) (count : ℕ) (pending : PendingCommands) (held : ResponderState (Unit {0})) → e.handed_on ≡ handed → e.count ≡ count → e.pending ≡ pending → IsHeld (held_in e) held
+  pub together : (handed : PassThrough) (count : ℕ) (pending : PendingCommands) (held : ResponderState (Unit {0})) → e.handed_on ≡ handed → e.count ≡ count → e.pending ≡ pending → IsHeld (held_in e) held
       → IsLeftByParts own handed busy window keep answers count pending held calls → IsLeftInTurn answers e calls
   together handed count pending held handed_is count_is pending_is same h =
       at_own
@@ -85,7 +85,7 @@ pub new_in_turn : assembly.NewLooksBack → NewInTurn
 new_in_turn looks answers own keeping handed limits most new h =
     together answers new _ _ _ _ [] _ 0 map.empty _ h.handed_on h.count h.idle h.held (new_by_parts looks _ handed _ _ _ answers)
 
-ended_parts : assembly.ForgetLooksBack → (own : ℕ) (handed : HandedOn) (busy : BusyTime) (window keep : ℕ) (answers : ℕ → Given) (count : ℕ) (pending : PendingCommands) (held : ResponderState (Unit {0})) (calls : List (Call ℕ)) (ended : Option Key)
+ended_parts : assembly.ForgetLooksBack → (own : ℕ) (handed : PassThrough) (busy : RestartPolicy) (window keep : ℕ) (answers : ℕ → Given) (count : ℕ) (pending : PendingCommands) (held : ResponderState (Unit {0})) (calls : List (Call ℕ)) (ended : Option Key)
     → IsLeftByParts own handed busy window keep answers count pending held calls → IsLeftByParts own handed busy window keep answers count pending (ended_held ended held) (with_ended ended calls)
 ended_parts looks own handed busy window keep answers count pending held calls None h = h
 ended_parts looks own handed busy window keep answers count pending held calls (Some key) h = ended_by_parts looks own handed busy window keep answers count pending held calls key h
@@ -109,7 +109,7 @@ none_asked o count (Some m) (task ∷ tasks) none = cc
 
 module _ (feeds : assembly.FeedLooksBack) (answers : ℕ → Given) (old new : EndpointView) (calls : List (Call ℕ)) (moment : ℕ) (bytes : List ℕ) (taken : Step)
     (left : IsLeftInTurn answers old calls) (h : HasReceived old moment bytes new taken) where
-  abbrev handed : HandedOn
+  abbrev handed : PassThrough
   handed = old.handed_on
 
   abbrev held : ResponderState (Unit {0})

@@ -12,7 +12,7 @@ use Rattle.std.specs.declared.cmp.Ordering.{Ordering}
 use Rattle.std.specs.declared.cmp.Ordering.TheVariants.{Less, Equal, Greater}
 use Rattle.mctp_packet.specs.declared.TheConstants.{NULL_EID}
 use Rattle.pldm_wire.specs.Headers.{id_at}
-use Rattle.pldm_wire.specs.declared.handed_on.HandedOn.{HandedOn}
+use Rattle.pldm_wire.specs.declared.pass_through.PassThrough.{PassThrough}
 use Rattle.pldm_responder.specs.Arrivals.{Arrival, Drop, Part, Whole}
 use Rattle.pldm_responder.specs.Ends.{End}
 use Rattle.pldm_responder.specs.Events.{Message, is_of}
@@ -29,7 +29,7 @@ use Rattle.pldm_endpoint.specs.declared.pending_commands.RequestKey.{RequestKey}
 use Rattle.pldm_endpoint.proofs.KeyOrder.{request_keys_exact, request_keys_total}
 
 -- ---- nothing is pending
-pub none_pending : (handed : HandedOn) (end : End) (pending : PendingCommands) (count most : ℕ) → pending ≡ map.empty → ((source : ℕ) → kept_in end.rows source ≡ []) → ArePending end handed pending count most
+pub none_pending : (handed : PassThrough) (end : End) (pending : PendingCommands) (count most : ℕ) → pending ≡ map.empty → ((source : ℕ) → kept_in end.rows source ≡ []) → ArePending end handed pending count most
 none_pending handed end pending count most is none = record {
   each = λ key. subst (λ o. IfSome o (IsWithDevice handed count key)) (sym (ap (λ m. map.get m key) is ∙ map.get-empty request_key_cmp key)) tt;
   few = subst (λ n. n ≤ most) (sym (ap map.len is ∙ map.len-empty request_key_cmp PendingCommand)) (omega arith);
@@ -66,7 +66,7 @@ whole_is Part m h = cc
 whole_is (Whole n) m h = cc
 
 -- ---- the end changes
-pub pending_over : (handed : HandedOn) (end new : End) (pending : PendingCommands) (count most : ℕ) → ((source : ℕ) → kept_in new.rows source ≡ kept_in end.rows source)
+pub pending_over : (handed : PassThrough) (end new : End) (pending : PendingCommands) (count most : ℕ) → ((source : ℕ) → kept_in new.rows source ≡ kept_in end.rows source)
     → ArePending end handed pending count most → ArePending new handed pending count most
 pending_over handed end new pending count most same are = record {
   each = are.each;
@@ -79,7 +79,7 @@ all_if P true window x kept new is here all = subst (All P) (sym is) (all_renewe
 all_if P false window x kept new is here all = subst (All P) (sym is) all
 
 -- an answer is kept in front
-pub pending_in_front : (handed : HandedOn) (end new : End) (pending : PendingCommands) (count most source window : ℕ) (entry : Entry) → 0 < length entry.answer
+pub pending_in_front : (handed : PassThrough) (end new : End) (pending : PendingCommands) (count most source window : ℕ) (entry : Entry) → 0 < length entry.answer
     → ((other : ℕ) → kept_in new.rows other ≡ (if source == other then take window (renewed id_in entry (kept_in end.rows other)) else kept_in end.rows other))
     → ArePending end handed pending count most → ArePending new handed pending count most
 pending_in_front handed end new pending count most source window entry some kept are = record {
@@ -89,7 +89,7 @@ pending_in_front handed end new pending count most source window entry some kept
 }
 
 -- what is kept where nothing is pending is answered
-pub free_is_answered : (handed : HandedOn) (end : End) (pending : PendingCommands) (count most source id : ℕ) → ArePending end handed pending count most → map.get pending (request_key source id) ≡ None
+pub free_is_answered : (handed : PassThrough) (end : End) (pending : PendingCommands) (count most source id : ℕ) → ArePending end handed pending count most → map.get pending (request_key source id) ≡ None
     → IfSome (entry_in end.rows source id) (λ e. 0 < length e.answer)
 free_is_answered handed end pending count most source id are free =
     only (entry_in end.rows source id) (found_holds (IsThereOrPending pending source) id (kept_in end.rows source) (are.kept source))
@@ -106,7 +106,7 @@ inserted_none pending key other a none = by_key (eq_by_cmp request_key_cmp other
     by_key true h = cc
     by_key false h = h
 
-pub pending_with : (handed : HandedOn) (end new : End) (pending : PendingCommands) (count most window : ℕ) (key : RequestKey) (a : PendingCommand) (waiting : Entry) → IsWithDevice handed (count + 1) key a → id_in waiting ≡ key.id
+pub pending_with : (handed : PassThrough) (end new : End) (pending : PendingCommands) (count most window : ℕ) (key : RequestKey) (a : PendingCommand) (waiting : Entry) → IsWithDevice handed (count + 1) key a → id_in waiting ≡ key.id
     → map.get pending key ≡ None → map.len pending < most
     → ((other : ℕ) → kept_in new.rows other ≡ (if key.source == other then take window (renewed id_in waiting (kept_in end.rows other)) else kept_in end.rows other))
     → ArePending end handed pending count most → ArePending new handed (map.insert pending key a) (count + 1) most
@@ -146,7 +146,7 @@ removed_by : (t : Bool) (n most : ℕ) → n ≤ most → cond t (n - 1) n ≤ m
 removed_by true n most few = omega (arith, few)
 removed_by false n most few = few
 
-pub pending_without : (handed : HandedOn) (end new : End) (pending : PendingCommands) (count most : ℕ) (key : RequestKey) (entry : Entry) → id_in entry ≡ key.id → 0 < length entry.answer
+pub pending_without : (handed : PassThrough) (end new : End) (pending : PendingCommands) (count most : ℕ) (key : RequestKey) (entry : Entry) → id_in entry ≡ key.id → 0 < length entry.answer
     → ((other : ℕ) → kept_in new.rows other ≡ (if key.source == other then replaced id_in entry (kept_in end.rows other) else kept_in end.rows other))
     → ArePending end handed pending count most → ArePending new handed (map.remove pending key) count most
 pending_without handed end new pending count most key entry id some kept are = record {

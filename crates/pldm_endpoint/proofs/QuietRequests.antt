@@ -2,7 +2,7 @@
 use Rattle.std.proofs.Common.{◌≡◌, ℕ, Bool, true, false, ◌&&◌, ◌==◌, [], if◌then◌else◌, refl, sym, ap, ◌∙◌}
 use Rattle.std.specs.Prelude.{take}
 use Rattle.pldm_wire.specs.HandingOn.{hands_on}
-use Rattle.pldm_wire.specs.declared.handed_on.HandedOn.{HandedOn}
+use Rattle.pldm_wire.specs.declared.pass_through.PassThrough.{PassThrough}
 use Rattle.pldm_responder.specs.Arrivals.{Whole}
 use Rattle.pldm_responder.specs.Asked.{gives}
 use Rattle.pldm_responder.specs.Ends.{End, held_by}
@@ -21,7 +21,7 @@ where_not true true x y h = cc
 where_not true false x y h = refl
 where_not false p x y h = refl
 
-pub steps_nowhere : (handed : HandedOn) (held : ResponderState (Unit {0})) (m : Message) → performs held m ≡ false → IsHeld (stepped handed held (Whole m)) held
+pub steps_nowhere : (handed : PassThrough) (held : ResponderState (Unit {0})) (m : Message) → performs held m ≡ false → IsHeld (stepped handed held (Whole m)) held
 steps_nowhere handed held m none =
     let by = λ (t : Bool). kept_by (if t then tasks_of (hands_on handed) m.bytes else []) m (arrival_held (gives (hands_on handed) unasked) held (Whole m)) held in
     record {

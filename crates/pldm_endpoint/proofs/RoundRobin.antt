@@ -4,7 +4,7 @@ use Rattle.std.specs.Prelude.{map, nat_le}
 use Rattle.std.proofs.lemmas.Bool.{cond-true, cond-false, leb-false, leb-true, eqb-true}
 use Rattle.std.proofs.lemmas.List.{length-map}
 use Rattle.pldm_wire.specs.Headers.{id_at}
-use Rattle.pldm_wire.specs.declared.busy_time.BusyTime.{BusyTime}
+use Rattle.pldm_wire.specs.declared.restart_policy.RestartPolicy.{RestartPolicy}
 use Rattle.pldm_responder.specs.Events.{Message, Event, Came, Set, Restarted, Changed, is_fresh}
 use Rattle.pldm_responder.specs.Recency.{renewed, without}
 use Rattle.pldm_responder.specs.TheRule.{others_since}
@@ -22,7 +22,7 @@ others_where : (t : Bool) (m : Message) (requests : List Message) (id : ℕ) (ot
 others_where true m requests id others same = ap (λ ids. if id_at m.bytes == id then [] else renewed (λ other. other) (id_at m.bytes) ids) same
 others_where false m requests id others same = same
 
-others_are : {S : Type 0} (busy : BusyTime) (window keep : ℕ) (h : List (Event S)) (source id : ℕ) → others_since busy window keep h source id ≡ others_in (fresh_of busy window keep h source) id
+others_are : {S : Type 0} (busy : RestartPolicy) (window keep : ℕ) (h : List (Event S)) (source id : ℕ) → others_since busy window keep h source id ≡ others_in (fresh_of busy window keep h source) id
 others_are busy window keep [] source id = refl
 others_are busy window keep (Set _ _ ∷ h) source id = others_are busy window keep h source id
 others_are busy window keep (Restarted _ ∷ h) source id = refl

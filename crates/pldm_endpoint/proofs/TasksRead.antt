@@ -9,7 +9,7 @@ use Rattle.pldm_wire.specs.Requests.{Request, request_of, request_refusal}
 use Rattle.pldm_wire.specs.declared.answer.Answer.TheVariants.{Refused}
 use Rattle.pldm_wire.specs.declared.assigned.TheConstants.{SUCCESS}
 use Rattle.pldm_wire.specs.declared.command.Command.{Command}
-use Rattle.pldm_wire.specs.declared.handed_on.HandedOn.{HandedOn}
+use Rattle.pldm_wire.specs.declared.pass_through.PassThrough.{PassThrough}
 use Rattle.pldm_responder.specs.Asked.{Given, gives}
 use Rattle.pldm_responder.specs.Performing.{Perform, Respond, answer_to, changes, changes_at, changes_by, reply, reply_to, response_to, tasks_at, tasks_in, tasks_of}
 use Rattle.pldm_endpoint.specs.Receiving.{IsRefusedBy}
@@ -24,7 +24,7 @@ pub request_is : (bytes : List ℕ) (request : Request) → request_of bytes ≡
 unfolding request_of
 request_is bytes request h = passed (request_refusal bytes) _ request h
 
-module _ (handed : HandedOn) (bytes : List ℕ) (request : Request) (is : request_of bytes ≡ Ok request) where
+module _ (handed : PassThrough) (bytes : List ℕ) (request : Request) (is : request_of bytes ≡ Ok request) where
   asks_by : (t : Bool) → hands_on handed request.kind ≡ t → tasks_of (hands_on handed) bytes ≡ (if t then Respond request ∷ [] else tasks_in (command_of request.kind request.rest))
   asks_by t h = ap (tasks_at (hands_on handed)) is ∙ ap (λ b. if b then Respond request ∷ [] else tasks_in (command_of request.kind request.rest)) h
 
@@ -36,7 +36,7 @@ module _ (handed : HandedOn) (bytes : List ℕ) (request : Request) (is : reques
   pub asks_command : (command : Command) → hands_on handed request.kind ≡ false → command_of request.kind request.rest ≡ Ok command → tasks_of (hands_on handed) bytes ≡ Perform command ∷ []
   asks_command command h read = asks_by false h ∙ ap tasks_in read
 
-module _ (handed : HandedOn) (code : ℕ) (bytes : List ℕ) (given : Given) (refused : IsRefusedBy handed code bytes) where
+module _ (handed : PassThrough) (code : ℕ) (bytes : List ℕ) (given : Given) (refused : IsRefusedBy handed code bytes) where
   -- one that is refused by its code asks nothing
   pub asks_nothing : tasks_of (hands_on handed) bytes ≡ []
   asks_nothing = asks_by handed bytes refused.0 refused.1 false refused.2 ∙ ap tasks_in refused.3

@@ -7,7 +7,7 @@ use Rattle.std.specs.Prelude.{map as list_map}
 use Rattle.mctp_assembly.specs.declared.key.Key.{Key}
 use Rattle.pldm_wire.specs.HandingOn.{hands_on}
 use Rattle.pldm_wire.specs.Headers.{id_at}
-use Rattle.pldm_wire.specs.declared.handed_on.HandedOn.{HandedOn}
+use Rattle.pldm_wire.specs.declared.pass_through.PassThrough.{PassThrough}
 use Rattle.pldm_platform.specs.declared.platform.ReadingFault.TheVariants.{NoSuchSensor}
 use Rattle.pldm_responder.specs.Asked.{Given, answer_in, gives, over, response_in}
 use Rattle.pldm_responder.specs.Calls.{Call, Received, Restart, Ended, Assigned, outcome}
@@ -19,7 +19,7 @@ use Rattle.pldm_responder.specs.Performing.{Rules, Task}
 use Rattle.pldm_responder.specs.ResponderStates.{Entry, ResponderState, IsHeld, id_in}
 use Rattle.pldm_responder.specs.Steps.{assigned_held, received_held, received_outcome, restarted_held}
 use Rattle.pldm_responder.specs.declared.bounds.Bounds.{Bounds}
-use Rattle.pldm_responder.specs.declared.keeping.Keeping.{Keeping}
+use Rattle.pldm_responder.specs.declared.responder_settings.ResponderSettings.{ResponderSettings}
 use Rattle.pldm_responder.specs.declared.outcome.Outcome.{Outcome}
 use Rattle.pldm_endpoint.specs.Receiving.{HasAnswered, HasForgotten, HasReceived, IsAsBefore, IsNewEndpoint}
 use Rattle.pldm_endpoint.specs.RequestKeys.{PendingCommands, pending_at, request_key}
@@ -30,7 +30,7 @@ use Rattle.pldm_endpoint.specs.declared.step.Step.{Step}
 use Rattle.pldm_endpoint.specs.declared.step.Step.TheVariants as step
 
 -- the platform whose state is how much it was asked
-abbrev pub in_turn : HandedOn → (ℕ → Given) → Rules ℕ
+abbrev pub in_turn : PassThrough → (ℕ → Given) → Rules ℕ
 in_turn handed answers = record {
   answer = λ count command. answer_in (answers count);
   after = λ count command. count + 1;
@@ -43,7 +43,7 @@ in_turn handed answers = record {
 -- ---- what calls leave
 
 -- a kept answer once the device has given all: that of a pending request is what it gives for its number
-abbrev pub entry_once_given : HandedOn → (ℕ → Given) → Option PendingCommand → Entry → Entry
+abbrev pub entry_once_given : PassThrough → (ℕ → Given) → Option PendingCommand → Entry → Entry
 entry_once_given handed answers None entry = entry
 entry_once_given handed answers (Some a) entry = entry_given handed a (answers a.number)
 
@@ -74,7 +74,7 @@ pub record IsLeftInTurn (answers : ℕ → Given) (e : EndpointView) (calls : Li
 -- a new endpoint
 abbrev pub NewInTurn : Type 0
 NewInTurn =
-    (answers : ℕ → Given) (own : Option ℕ) (keeping : Keeping) (handed : HandedOn) (limits : Bounds) (most : ℕ)
+    (answers : ℕ → Given) (own : Option ℕ) (keeping : ResponderSettings) (handed : PassThrough) (limits : Bounds) (most : ℕ)
     (new : EndpointView)
     → IsNewEndpoint own keeping handed limits most new → IsLeftInTurn answers new []
 
@@ -141,7 +141,7 @@ RefusedInTurn =
 -- the two steps, one right after the other, are what a responder does whose platform gives this
 abbrev pub TwoStepsAreOne : Type 0
 TwoStepsAreOne =
-    (handed : HandedOn) (held : ResponderState (Unit {0})) (moment : ℕ) (bytes : List ℕ) (count : ℕ) (m : Message) (task : Task)
+    (handed : PassThrough) (held : ResponderState (Unit {0})) (moment : ℕ) (bytes : List ℕ) (count : ℕ) (m : Message) (task : Task)
     (given : Given)
     → request_in held moment bytes ≡ Some m → asked_now handed held moment bytes ≡ task ∷ []
     → (outcome_of_answer (hands_on handed) held.own m.source m.tag m.bytes given

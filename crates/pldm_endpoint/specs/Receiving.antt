@@ -4,7 +4,7 @@ use Rattle.std.specs.Prelude.{◌≡◌, ℕ, ◌+◌, ◌⊎◌, true, false, L
 use Rattle.pldm_wire.specs.CommandReading.{command_of}
 use Rattle.pldm_wire.specs.HandingOn.{hands_on}
 use Rattle.pldm_wire.specs.Requests.{Request, request_of}
-use Rattle.pldm_wire.specs.declared.handed_on.HandedOn.{HandedOn}
+use Rattle.pldm_wire.specs.declared.pass_through.PassThrough.{PassThrough}
 use Rattle.pldm_responder.specs.Arrivals.{Whole}
 use Rattle.pldm_responder.specs.Ends.{AreSameRows, eid_or_null, has_row}
 use Rattle.pldm_responder.specs.Slots.{source_count}
@@ -18,7 +18,7 @@ use Rattle.pldm_responder.specs.Steps.{message_outcome, performs, received_arriv
 use Rattle.pldm_responder.specs.Asked.{Given, gives}
 use Rattle.pldm_responder.specs.Performing.{Task, tasks_of}
 use Rattle.pldm_responder.specs.declared.bounds.Bounds.{Bounds}
-use Rattle.pldm_responder.specs.declared.keeping.Keeping.{Keeping}
+use Rattle.pldm_responder.specs.declared.responder_settings.ResponderSettings.{ResponderSettings}
 use Rattle.pldm_responder.specs.declared.outcome.Outcome.{Outcome}
 use Rattle.pldm_endpoint.specs.Giving.{busy_with}
 use Rattle.pldm_endpoint.specs.Refusing.{IsOfMemory, refused_by, refused_while}
@@ -47,7 +47,7 @@ pub record HasForgotten (new old : EndpointView) : Type 0 where
   pub settings : HasSameSettings new old
 
 -- an endpoint as it is made: it holds what a new responder holds, and nothing is pending
-pub record IsNewEndpoint (own : Option ℕ) (keeping : Keeping) (handed : HandedOn) (limits : Bounds) (most : ℕ)
+pub record IsNewEndpoint (own : Option ℕ) (keeping : ResponderSettings) (handed : PassThrough) (limits : Bounds) (most : ℕ)
     (new : EndpointView) : Type 0 where
   pub held :
       IsHeld (held_in new)
@@ -111,7 +111,7 @@ pub record IsToBeServed (e : EndpointView) (moment : ℕ) (r : Requested) : Type
   pub free : map.get e.pending (request_key_of (message_at moment r)) ≡ None
 
 -- it is not handed on as bytes, and its command is refused with this code
-abbrev pub IsRefusedBy : HandedOn → ℕ → List ℕ → Type 0
+abbrev pub IsRefusedBy : PassThrough → ℕ → List ℕ → Type 0
 IsRefusedBy handed code bytes =
     (request : Request) × (request_of bytes ≡ Ok request) × (hands_on handed request.kind ≡ false)
     × (command_of request.kind request.rest ≡ Err code)

@@ -3,10 +3,10 @@
 use Rattle.std.specs.Prelude.{◌≡◌, ◌<◌, ◌≤◌, ℕ, ◌+◌, ◌%◌, ◌&&◌, ◌==◌, not, nat_le, List, [], ◌∷◌, filter, length, if◌then◌else◌}
 use Rattle.pldm_wire.specs.Headers.{id_at}
 use Rattle.pldm_wire.specs.declared.assigned.TheConstants.{INSTANCE_IDS}
-use Rattle.pldm_wire.specs.declared.busy_time.BusyTime.{BusyTime}
+use Rattle.pldm_wire.specs.declared.restart_policy.RestartPolicy.{RestartPolicy}
 use Rattle.pldm_responder.specs.Events.{Message, Event, Came, Set, Restarted, Changed, is_fresh, is_refused}
 
-module _ {S : Type 0} (busy : BusyTime) (window keep : ℕ) where
+module _ {S : Type 0} (busy : RestartPolicy) (window keep : ℕ) where
   -- the fresh requests of a source since the last restart, the newest first
   abbrev pub fresh_of : List (Event S) → ℕ → List Message
   fresh_of [] source = []
@@ -36,7 +36,7 @@ module _ (number : Message → ℕ) where
 -- lost, the new one is performed or refused anew
 abbrev pub NewInTurnIsFresh : Type 0 → Type 0
 NewInTurnIsFresh S =
-    (busy : BusyTime) (window keep : ℕ) (events : List (Event S)) (m : Message) (number : Message → ℕ)
+    (busy : RestartPolicy) (window keep : ℕ) (events : List (Event S)) (m : Message) (number : Message → ℕ)
     → IsNumbered number m
     → AreInTurn number (number m) (fresh_of busy window keep events m.source)
     → window ≤ length (among_last number (number m) (fresh_of busy window keep events m.source))

@@ -11,12 +11,12 @@ use Rattle.pldm_wire.specs.Commands.{kind_of}
 use Rattle.pldm_wire.specs.HandingOn.{hands_on}
 use Rattle.pldm_wire.specs.Headers.{id_at, kind_at}
 use Rattle.pldm_wire.specs.Requests.{Request, request}
-use Rattle.pldm_wire.specs.contracts.handed_on.HandedOn as handed_type
+use Rattle.pldm_wire.specs.contracts.handed_on.PassThrough as handed_type
 use Rattle.pldm_wire.specs.declared.answer.Answer.{Answer}
 use Rattle.pldm_wire.specs.declared.answer.Answer.TheVariants.{Refused}
 use Rattle.pldm_wire.specs.declared.assigned.TheConstants.{ERROR_NOT_READY, INSTANCE_IDS, REQUEST_HEADER}
 use Rattle.pldm_wire.specs.declared.command.Command.{Command}
-use Rattle.pldm_wire.specs.declared.handed_on.HandedOn.{HandedOn}
+use Rattle.pldm_wire.specs.declared.pass_through.PassThrough.{PassThrough}
 use Rattle.pldm_responder.specs.Arrivals.{Arrival, Drop, Part, Whole, request_packet}
 use Rattle.pldm_responder.specs.Asked.{Answered, Given, Responded, gives, listed}
 use Rattle.pldm_responder.specs.Ends.{End, coded_end, held_by}
@@ -40,7 +40,7 @@ use Rattle.pldm_endpoint.specs.declared.step.Step.TheVariants as step
 -- much was asked of the device, and how much may be pending at a time
 pub record EndpointView : Type 0 where
   pub end : End
-  pub handed_on : HandedOn
+  pub handed_on : PassThrough
   pub pending : PendingCommands
   pub count : ℕ
   pub max_pending : ℕ
@@ -48,7 +48,7 @@ pub record EndpointView : Type 0 where
 -- it is stored as its parts
 abbrev pub coded_endpoint : Coded EndpointView
 coded_endpoint =
-    code_by (End × (HandedOn × (PendingCommands × (ℕ × ℕ))))
+    code_by (End × (PassThrough × (PendingCommands × (ℕ × ℕ))))
     (coded× coded_end (coded× handed_type.the_row.coded
     (coded× (map.code coded_request_key command_type.the_row.coded) (coded× coded_ℕ coded_ℕ))))
     (λ e. (e.end, (e.handed_on, (e.pending, (e.count, e.max_pending)))))
@@ -86,7 +86,7 @@ command_in (Perform command) = Some command
 command_in (Respond request) = None
 
 -- the request of what is pending is known
-pub record IsWithDevice (handed : HandedOn) (count : ℕ) (key : RequestKey) (a : PendingCommand) : Type 0 where
+pub record IsWithDevice (handed : PassThrough) (count : ℕ) (key : RequestKey) (a : PendingCommand) : Type 0 where
   pub instance : key.id < INSTANCE_IDS
   pub task : tasks_of (hands_on handed) a.request ≡ task_for a ∷ []
   pub id : id_at a.request ≡ key.id
@@ -98,7 +98,7 @@ IsThereOrPending pending source entry =
     map.get pending (request_key source (id_in entry)) ≡ None → 0 < length entry.answer
 
 -- that is so of all, and they are no more than there may be
-pub record ArePending (end : End) (handed : HandedOn) (pending : PendingCommands) (count max_pending : ℕ) : Type 0 where
+pub record ArePending (end : End) (handed : PassThrough) (pending : PendingCommands) (count max_pending : ℕ) : Type 0 where
   pub each : (key : RequestKey) → IfSome (map.get pending key) (IsWithDevice handed count key)
   pub few : map.len pending ≤ max_pending
   pub kept : (source : ℕ) → All (IsThereOrPending pending source) (kept_in end.rows source)
@@ -163,7 +163,7 @@ kept_by (task ∷ tasks) m answered held = with_waiting held m
 abbrev pub request_in : ResponderState (Unit {0}) → ℕ → List ℕ → Option Message
 request_in held moment bytes = message_in (received_arrival held moment bytes)
 
-module _ (handed : HandedOn) (held : ResponderState (Unit {0})) where
+module _ (handed : PassThrough) (held : ResponderState (Unit {0})) where
   -- what an arrival asks of the device
   abbrev pub arrival_tasks : Arrival → List Task
   arrival_tasks a = arrival_asks held (tasks_of (hands_on handed)) a
@@ -233,7 +233,7 @@ abbrev pub IsItsAnswer : Option PendingCommand → Given → Type 0
 IsItsAnswer None given = ⊥
 IsItsAnswer (Some a) given = IsForCommand a.command given
 
-module _ (handed : HandedOn) where
+module _ (handed : PassThrough) where
   -- it goes to the source of the request, on the tag of that one's packets
   abbrev pub IsAnsweredBy : ℕ → CommandHandle → Given → Option PendingCommand → Outcome → Type 0
   IsAnsweredBy own handle given None outcome = ⊥

@@ -29,11 +29,11 @@ use crate::step::{
 };
 use mctp_packet::{Body, Eid, Moment, PacketRef, Route};
 use pldm_responder::{
-    AnsweringEnd, Arrived, Bounds, Keeping, MessageOutcome, Outcome, Request, Standing, Taken,
-    not_performed, performed, refuse,
+    AnsweringEnd, Bounds, Disposition, Intake, MessageOutcome, Outcome, Request, RequestClass,
+    ResponderSettings, not_performed, performed, refuse,
 };
 use pldm_wire::{
-    Answer, BusyTime, Code, Command, HandedOn, MAX_RESPONSE_DATA, RequestRef, SUCCESS,
+    Answer, Code, Command, MAX_RESPONSE_DATA, PassThrough, RequestRef, RestartPolicy, SUCCESS,
     put_response, read_command,
 };
 use std::alloc::Global;
@@ -50,7 +50,7 @@ pub struct Endpoint {
     alloc: Global,
     end: AnsweringEnd,
     /// Which requests are handed on as bytes.
-    handed_on: HandedOn,
+    handed_on: PassThrough,
     pending: PendingCommands,
     /// How many commands and requests were handed to the device.
     count: u64,
@@ -86,8 +86,8 @@ impl Endpoint {
     pub fn new(
         alloc: Global,
         own: Option<Eid>,
-        keeping: Keeping,
-        handed_on: HandedOn,
+        keeping: ResponderSettings,
+        handed_on: PassThrough,
         bounds: Bounds,
         max_pending: usize,
     ) -> Endpoint
@@ -96,7 +96,13 @@ impl Endpoint {
         let busy = busy_with(handed_on, keeping.busy);
         Endpoint {
             alloc,
-            end: AnsweringEnd::new(alloc, own, Keeping { busy, ..keeping }, bounds, true),
+            end: AnsweringEnd::new(
+                alloc,
+                own,
+                ResponderSettings { busy, ..keeping },
+                bounds,
+                true,
+            ),
             handed_on,
             pending: PendingCommands::new(alloc),
             count: 0,
@@ -146,7 +152,7 @@ impl Endpoint {
     }
 
     /// Which requests are handed on as bytes.
-    pub fn handed_on(&self) -> HandedOn
+    pub fn handed_on(&self) -> PassThrough
         ensures { result ≡ self.now.handed_on }
     {
         self.handed_on
@@ -238,12 +244,14 @@ impl Endpoint {
         ensures refused { IfErr result (IsRefused self.old now bytes.now self.new) }
     {
         match self.end.take(now, bytes) {
-            Ok(Taken::Arrived(Arrived::Dropped(reason))) => {
+            Ok(Intake::Decided(Disposition::Dropped(reason))) => {
                 Ok(MessageStep::Done(MessageOutcome::Dropped(reason)))
             }
-            Ok(Taken::Arrived(Arrived::Partial)) => Ok(MessageStep::Done(MessageOutcome::Partial)),
-            Ok(Taken::Arrived(Arrived::Request(request))) => self.serve(now, &request, reply),
-            Ok(Taken::Last(packet)) => self.receive_last(now, &packet, reply),
+            Ok(Intake::Decided(Disposition::Partial)) => Ok(MessageStep::Done(
+                MessageOutcome::Partial,
+            )),
+            Ok(Intake::Decided(Disposition::Request(request))) => self.serve(now, &request, reply),
+            Ok(Intake::Last(packet)) => self.receive_last(now, &packet, reply),
             Err(refusal) => Err(refusal.into()),
         }
     }
@@ -266,9 +274,9 @@ impl Endpoint {
     {
         let mut room = Body::new();
         match self.end.take_last(now, packet, &mut room) {
-            Arrived::Dropped(reason) => Ok(MessageStep::Done(MessageOutcome::Dropped(reason))),
-            Arrived::Partial => Ok(MessageStep::Done(MessageOutcome::Partial)),
-            Arrived::Request(request) => self.serve(now, &request, reply),
+            Disposition::Dropped(reason) => Ok(MessageStep::Done(MessageOutcome::Dropped(reason))),
+            Disposition::Partial => Ok(MessageStep::Done(MessageOutcome::Partial)),
+            Disposition::Request(request) => self.serve(now, &request, reply),
         }
     }
 
@@ -291,7 +299,7 @@ impl Endpoint {
                 ReceiveRefusal::Performing
             });
         }
-        if self.end.standing(now, request, reply) != Standing::Fresh {
+        if self.end.standing(now, request, reply) != RequestClass::Fresh {
             self.end.finish(now, request);
             let route = request.way_back();
             return Ok(MessageStep::Done(not_performed(route)));
@@ -523,7 +531,7 @@ impl Endpoint {
 
     /// Restarts at the moment `now`, which must not be before [`Endpoint::last_moment`]. The kept answers, the messages
     /// that have begun and the pending commands are forgotten. The device may have performed those commands or
-    /// not, so for the keeping time from then on nothing is performed, or nothing that [`Keeping::busy`] names, as after
+    /// not, so for the keeping time from then on nothing is performed, or nothing that [`ResponderSettings::busy`] names, as after
     /// [`pldm_responder::Responder::restart`]; an answer to one of them is refused as `NotPending` from then on.
     pub fn restart(&mut self, now: Moment)
         requires { (held_in self.old).last ≤ now }
@@ -550,12 +558,12 @@ impl Endpoint {
 
 /// What is refused in the busy time, where these requests are handed on as bytes: they count as requests that set
 /// something.
-fn busy_with(handed_on: HandedOn, busy: BusyTime) -> BusyTime
+fn busy_with(handed_on: PassThrough, busy: RestartPolicy) -> RestartPolicy
     ensures { result ≡ busy_with handed_on busy }
 {
     match busy {
-        BusyTime::All => BusyTime::All,
-        BusyTime::Sets(_) => BusyTime::Sets(handed_on),
+        RestartPolicy::All => RestartPolicy::All,
+        RestartPolicy::Sets(_) => RestartPolicy::Sets(handed_on),
     }
 }
 
@@ -563,7 +571,7 @@ fn busy_with(handed_on: HandedOn, busy: BusyTime) -> BusyTime
 /// completion code by which the request is refused.
 // Not inlined: the stack that reading a command needs is then free again before the command is handed out.
 #[inline(never)]
-fn task_in(handed_on: HandedOn, request: &Request<'_>) -> Result<Option<Command>, Code>
+fn task_in(handed_on: PassThrough, request: &Request<'_>) -> Result<Option<Command>, Code>
     ensures ok { IfOk result (λ command. tasks_of (hands_on handed_on) request.now.bytes
         ≡ task_in command request.now.bytes ∷ []) }
     ensures err { IfErr result (λ code. IsRefusedBy handed_on code request.now.bytes) }

@@ -5,8 +5,8 @@ use Rattle.std.specs.List.{range_with_len}
 use Rattle.hex.specs.Hex.{encode_lower}
 use Rattle.mctp_packet.specs.Reasons.{name_of as name_of_reason}
 use Rattle.mctp_packet.specs.declared.reason.Reason.{Reason}
-use Rattle.mctp_serial.specs.FrameFaults.{name_of}
-use Rattle.mctp_serial.specs.declared.fault.FrameFault.{FrameFault}
+use Rattle.mctp_serial.specs.SerialFaults.{name_of}
+use Rattle.mctp_serial.specs.declared.fault.SerialFault.{SerialFault}
 use Rattle.pldm_line.specs.Logs.{capture_line, capture_lines, drop_line, no_frame_line}
 
 byte_behind : (front : List ℕ) (byte : ℕ) (more : List ℕ) → front ++ byte ∷ more ≡ [] → ⊥
@@ -30,7 +30,7 @@ drop_line_has_bytes reason none =
     let size = ap (λ (l : List ℕ). length l) none in
     omega (arith, size, length-append (codes "mctpctl: drop ") (name_of_reason reason ++ 10 ∷ []), length-append (name_of_reason reason) (10 ∷ []))
 
-pub no_frame_line_has_bytes : (fault : FrameFault) → no_frame_line fault ≡ [] → ⊥
+pub no_frame_line_has_bytes : (fault : SerialFault) → no_frame_line fault ≡ [] → ⊥
 no_frame_line_has_bytes fault none =
     let size = ap (λ (l : List ℕ). length l) none in
     omega (arith, size, length-append (codes "mctpctl: no frame: ") (name_of fault ++ 10 ∷ []), length-append (name_of fault) (10 ∷ []))

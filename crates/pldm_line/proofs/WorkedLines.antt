@@ -3,7 +3,7 @@ use Rattle.std.proofs.Common.{◌≡◌, [], ◌∷◌, codes, refl}
 use Rattle.hex.specs.Hex.{encode_with}
 use Rattle.std.specs.Fmt.{digits}
 use Rattle.mctp_packet.specs.declared.reason.Reason.TheVariants.{NotPldm}
-use Rattle.mctp_serial.specs.declared.fault.FrameFault.TheVariants.{WrongCheck}
+use Rattle.mctp_serial.specs.declared.fault.SerialFault.TheVariants.{WrongCheck}
 use Rattle.pldm_line.specs.Logs.{capture_line, capture_lines, drop_line, no_frame_line}
 
 a_packet : capture_line 17 (0x01 ∷ 0x09 ∷ 0x08 ∷ 0xC8 ∷ []) ≡ codes "17 010908c8\n"

@@ -2,14 +2,14 @@
 use Rattle.std.specs.Prelude.{ℕ, List}
 use Rattle.mctp_packet.specs.Pieces.{written_packets}
 use Rattle.mctp_packet.specs.declared.reason.Reason.{Reason}
-use Rattle.mctp_serial.specs.declared.fault.FrameFault.{FrameFault}
+use Rattle.mctp_serial.specs.declared.fault.SerialFault.{SerialFault}
 use Rattle.pldm_line.specs.declared.events.Event.{Event}
 use Rattle.pldm_line.specs.declared.events.Event.TheVariants as event
 
 -- an event, with its moment in milliseconds and its bytes
 pub data Seen : Type 0 where
   -- bytes after a flag were no frame
-  NoFrame : FrameFault → Seen
+  NoFrame : SerialFault → Seen
   -- a packet of these bytes came
   Came : (moment : ℕ) → (packet : List ℕ) → Seen
   -- the packet that just came was dropped, and no control message was answered

@@ -6,8 +6,8 @@ use Rattle.std.specs.Prelude.{◌≡◌, ◌⊎◌, ℕ, Bool, false, true, List
 use Rattle.hex.specs.Hex.{encode_lower}
 use Rattle.mctp_packet.specs.Reasons.{name_of as name_of_reason}
 use Rattle.mctp_packet.specs.declared.reason.Reason.{Reason}
-use Rattle.mctp_serial.specs.FrameFaults.{name_of}
-use Rattle.mctp_serial.specs.declared.fault.FrameFault.{FrameFault}
+use Rattle.mctp_serial.specs.SerialFaults.{name_of}
+use Rattle.mctp_serial.specs.declared.fault.SerialFault.{SerialFault}
 use Rattle.mctpctl_input.specs.Ports.{has_failed, inner_of}
 use Rattle.mctpctl_input.specs.declared.port.Port.{Port}
 use Rattle.pldm_line.specs.Events.{Seen, NoFrame, Came, Dropped, Sent, SentControl}
@@ -33,7 +33,7 @@ capture_text (SentControl moment packet) = capture_line moment packet
 abbrev pub drop_line : Reason → List ℕ
 drop_line reason = codes "mctpctl: drop " ++ (name_of_reason reason ++ 10 ∷ [])
 
-abbrev pub no_frame_line : FrameFault → List ℕ
+abbrev pub no_frame_line : SerialFault → List ℕ
 no_frame_line fault = codes "mctpctl: no frame: " ++ (name_of fault ++ 10 ∷ [])
 
 -- what an event adds to the drops

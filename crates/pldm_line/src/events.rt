@@ -4,13 +4,13 @@ ghost use Rattle.std.specs.Prelude.{◌≡◌};
 ghost use Rattle.pldm_line.specs.Events.{Seen, seen_of};
 
 use mctp_packet::{Moment, Reason, Route};
-use mctp_serial::FrameFault;
+use mctp_serial::SerialFault;
 
 /// What happened on the line.
 #[derive(Debug, Drop)]
 pub enum Event<'a> {
     /// Bytes after a flag were no frame.
-    NoFrame(FrameFault),
+    NoFrame(SerialFault),
     /// A packet of these bytes came at this moment.
     Came(Moment, &'a [u8]),
     /// The packet that just came was dropped.

@@ -5,11 +5,11 @@ use borrow.Author.Tests.{ltb-false}
 use Rattle.mctp_assembly.specs.Laws as assembly
 use Rattle.pldm_wire.specs.Headers.{id_at}
 use Rattle.pldm_wire.specs.Requests.{request_of}
-use Rattle.pldm_wire.specs.declared.busy_time.BusyTime.TheVariants.{All, Sets}
+use Rattle.pldm_wire.specs.declared.restart_policy.RestartPolicy.TheVariants.{All, Sets}
 use Rattle.pldm_responder.specs.Arrivals.{Arrival, Drop, Part, Whole, request_packet}
 use Rattle.pldm_responder.specs.Calls.{Call, arrived, events, fed}
-use Rattle.pldm_wire.specs.declared.busy_time.BusyTime.{BusyTime}
-use Rattle.pldm_wire.specs.declared.handed_on.HandedOn.{HandedOn}
+use Rattle.pldm_wire.specs.declared.restart_policy.RestartPolicy.{RestartPolicy}
+use Rattle.pldm_wire.specs.declared.pass_through.PassThrough.{PassThrough}
 use Rattle.pldm_responder.specs.Events.{Message, Event, Came, Set, Restarted, Changed, Place, busy_until, is_busy, is_copy, is_copy_of, is_fresh, is_of, is_refused, refuses_bytes, sets_in}
 use Rattle.pldm_responder.specs.Performing.{Rules, commands_of, tasks_of}
 use Rattle.pldm_responder.specs.Askings.{AskedApart, CommandsLookBack, Covers, SetsAfterBusyTime, TasksLookBack, asked_by, is_renewed}
@@ -22,7 +22,7 @@ use Rattle.pldm_responder.proofs.CopiesByTheRule.{copies_by_the_rule}
 
 -- ---- what is asked is what looking back says
 module _ {S A : Type 0} (device : Rules S) (asks : List ℕ → List A) where
-  asked_is : (own : ℕ) (busy : BusyTime) (window keep : ℕ) (start : S) (held : ResponderState S) (h : List (Event S)) (a : Arrival)
+  asked_is : (own : ℕ) (busy : RestartPolicy) (window keep : ℕ) (start : S) (held : ResponderState S) (h : List (Event S)) (a : Arrival)
       → arrival_asks (left_by device own busy window keep start held.open_messages held.last h) asks a ≡ asked_by asks busy window keep h a
   asked_is own busy window keep start held h (Drop reason) = refl
   asked_is own busy window keep start held h Part = refl
@@ -30,7 +30,7 @@ module _ {S A : Type 0} (device : Rules S) (asks : List ℕ → List A) where
       ap (λ r. if not (is_refused busy keep h m) && not r then asks m.bytes else [])
       (copies_is device own busy window keep start h m)
 
-  pub asks_look_back : assembly.FeedLooksBack → (own : ℕ) (busy : BusyTime) (window keep : ℕ) (start : S) (held : ResponderState S) (calls : List (Call S)) (moment : ℕ) (bytes : List ℕ)
+  pub asks_look_back : assembly.FeedLooksBack → (own : ℕ) (busy : RestartPolicy) (window keep : ℕ) (start : S) (held : ResponderState S) (calls : List (Call S)) (moment : ℕ) (bytes : List ℕ)
       → IsLeftBy device own busy window keep start held calls
       → arrival_asks held asks (received_arrival held moment bytes) ≡ asked_by asks busy window keep (events own calls) (arrived own calls moment bytes)
   asks_look_back looks own busy window keep start held calls moment bytes left =
@@ -56,7 +56,7 @@ later_none true more h = cc
 later_none false more h = h
 
 -- with nothing to renew it, the origin stays
-origin_stays : {S : Type 0} (busy : BusyTime) (window keep : ℕ) (before later : List (Event S)) (source id : ℕ) → is_renewed busy window keep before later source id ≡ false → latest_fresh busy window keep (later ++ before) source id ≡ latest_fresh busy window keep before source id
+origin_stays : {S : Type 0} (busy : RestartPolicy) (window keep : ℕ) (before later : List (Event S)) (source id : ℕ) → is_renewed busy window keep before later source id ≡ false → latest_fresh busy window keep (later ++ before) source id ≡ latest_fresh busy window keep before source id
 origin_stays busy window keep before [] source id h = refl
 origin_stays busy window keep before (Restarted moment ∷ later) source id h = cc
 origin_stays busy window keep before (Set i value ∷ later) source id h = origin_stays busy window keep before later source id h
@@ -76,7 +76,7 @@ both_true false b h g = cc
 is_its_own : (m : Message) → is_of m m.source (id_at m.bytes) ≡ true
 is_its_own m = both_true (m.source == m.source) (id_at m.bytes == id_at m.bytes) (eq-eqb m.source m.source refl) (eq-eqb (id_at m.bytes) (id_at m.bytes) refl)
 
-origin_here : {S : Type 0} (busy : BusyTime) (window keep : ℕ) (before : List (Event S)) (m : Message) → is_fresh busy window keep before m ≡ true → latest_fresh busy window keep (Came m ∷ before) m.source (id_at m.bytes) ≡ Some (record { before = before; message = m })
+origin_here : {S : Type 0} (busy : RestartPolicy) (window keep : ℕ) (before : List (Event S)) (m : Message) → is_fresh busy window keep before m ≡ true → latest_fresh busy window keep (Came m ∷ before) m.source (id_at m.bytes) ≡ Some (record { before = before; message = m })
 origin_here busy window keep before m fresh =
     where_is (is_of m m.source (id_at m.bytes) && is_fresh busy window keep before m) _ _ (both_true (is_of m m.source (id_at m.bytes)) (is_fresh busy window keep before m) (is_its_own m) fresh)
 
@@ -97,7 +97,7 @@ both_or : (a b : Bool) → (a && b) ≡ false → (a ≡ false) ⊎ (b ≡ false
 both_or true b h = inr h
 both_or false b h = inl refl
 
-by_renewal : {S : Type 0} (t : Bool) (busy : BusyTime) (window keep : ℕ) (before later : List (Event S)) (first again : Message) → is_renewed busy window keep (Came first ∷ before) later first.source (id_at first.bytes) ≡ t
+by_renewal : {S : Type 0} (t : Bool) (busy : RestartPolicy) (window keep : ℕ) (before later : List (Event S)) (first again : Message) → is_renewed busy window keep (Came first ∷ before) later first.source (id_at first.bytes) ≡ t
     → is_fresh busy window keep before first ≡ true → is_fresh busy window keep (later ++ Came first ∷ before) again ≡ true → again.source ≡ first.source → again.bytes ≡ first.bytes
     → (first.moment + keep ≤ again.moment) ⊎ (t ≡ true) ⊎ (window ≤ length (others_since busy window keep (later ++ Came first ∷ before) first.source (id_at first.bytes)))
 by_renewal true busy window keep before later first again renewed fresh once source bytes = inr (inl refl)
@@ -121,7 +121,7 @@ asked_apart busy window keep before later first again fresh once source bytes =
     by_renewal (is_renewed busy window keep (Came first ∷ before) later first.source (id_at first.bytes)) busy window keep before later first again refl fresh once source bytes
 
 -- ---- requests that set something
-refused_where_set : (handed : HandedOn) (busy : BusyTime) (bytes : List ℕ) → Covers busy handed → sets_in handed (request_of bytes) ≡ true → refuses_bytes busy bytes ≡ true
+refused_where_set : (handed : PassThrough) (busy : RestartPolicy) (bytes : List ℕ) → Covers busy handed → sets_in handed (request_of bytes) ≡ true → refuses_bytes busy bytes ≡ true
 refused_where_set handed All bytes covers sets = refl
 refused_where_set handed (Sets own) bytes covers sets = ap (λ h. sets_in h (request_of bytes)) covers ∙ sets
 

@@ -10,7 +10,7 @@ use Rattle.mctp_assembly.specs.Histories as histories
 use Rattle.mctp_assembly.specs.Laws as assembly
 use Rattle.mctp_assembly.specs.Steps as steps
 use Rattle.pldm_wire.specs.Headers.{id_at}
-use Rattle.pldm_wire.specs.declared.busy_time.BusyTime.{BusyTime}
+use Rattle.pldm_wire.specs.declared.restart_policy.RestartPolicy.{RestartPolicy}
 use Rattle.pldm_platform.specs.Changes.{changed_or}
 use Rattle.pldm_responder.specs.Arrivals.{Arrival, Drop, Part, Whole, fed_arrival, passed_arrival, arrival, request_packet, packets_back}
 use Rattle.pldm_responder.specs.Calls as calls
@@ -37,7 +37,7 @@ module _ (looks : assembly.FeedLooksBack) where
   passed_opens open_messages packets (Err reason) left = left
 
 -- ---- what a message is answered and leaves
-module _ {S : Type 0} (device : Rules S) (own : ℕ) (busy : BusyTime) (window keep : ℕ) (start : S) where
+module _ {S : Type 0} (device : Rules S) (own : ℕ) (busy : RestartPolicy) (window keep : ℕ) (start : S) where
   -- what these events leave, with any open messages and last moment
   abbrev pub left_by : steps.OpenMessages → ℕ → List (Event S) → ResponderState S
   left_by open_messages last h = record {
@@ -220,12 +220,12 @@ module _ {S : Type 0} (device : Rules S) where
   }
 
   -- t where there was no endpoint ID before
-  assigned_kept : (t : Bool) (busy : BusyTime) (window keep : ℕ) (start : S) (held : ResponderState S) (moment : ℕ) (h : List (Event S)) (source : ℕ) → held.kept source ≡ kept_to device busy window keep start h source
+  assigned_kept : (t : Bool) (busy : RestartPolicy) (window keep : ℕ) (start : S) (held : ResponderState S) (moment : ℕ) (h : List (Event S)) (source : ℕ) → held.kept source ≡ kept_to device busy window keep start h source
       → (if t then held else restarted_held held moment).kept source ≡ kept_to device busy window keep start (if t then h else Restarted moment ∷ h) source
   assigned_kept true busy window keep start held moment h source kept = kept
   assigned_kept false busy window keep start held moment h source kept = sym (ap (map (entry_at device busy window keep start)) (take-nil {A = Place S} window))
 
-  assigned_state : (t : Bool) (busy : BusyTime) (window keep : ℕ) (start : S) (held : ResponderState S) (moment : ℕ) (h : List (Event S)) → held.state ≡ performed device busy window keep start h
+  assigned_state : (t : Bool) (busy : RestartPolicy) (window keep : ℕ) (start : S) (held : ResponderState S) (moment : ℕ) (h : List (Event S)) → held.state ≡ performed device busy window keep start h
       → (if t then held else restarted_held held moment).state ≡ performed device busy window keep start (if t then h else Restarted moment ∷ h)
   assigned_state true busy window keep start held moment h state = state
   assigned_state false busy window keep start held moment h state = state

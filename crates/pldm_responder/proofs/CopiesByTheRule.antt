@@ -3,7 +3,7 @@ use Rattle.std.proofs.Common.{◌≡◌, ◌≢◌, ℕ, zero, suc, Bool, true, 
 use Rattle.std.specs.Prelude.{not, ◌&&◌, ◌==◌, nat_lt, take, if◌then◌else◌}
 use Rattle.std.proofs.lemmas.Bool.{cases_Bool, cond-true, cond-false, eqb-false, le-ltb, lt-ltb, ltb-true, ltb-false, not_from_true, not_from_false, and_right}
 use Rattle.pldm_wire.specs.Headers.{id_at}
-use Rattle.pldm_wire.specs.declared.busy_time.BusyTime.{BusyTime}
+use Rattle.pldm_wire.specs.declared.restart_policy.RestartPolicy.{RestartPolicy}
 use Rattle.pldm_responder.specs.Events.{Message, Event, Came, Set, Restarted, Changed, Place, id_of, is_copy, is_copy_of, is_fresh, is_refused, recent}
 use Rattle.pldm_responder.specs.Recency.{of_number, without, renewed}
 use Rattle.pldm_responder.specs.TheRule.{latest_fresh, others_since, CopiesByTheRule, FreshPastTheWindow}
@@ -76,7 +76,7 @@ module _ {A : Type 0} (number : A → ℕ) where
       ∙ ap (λ ys. number x ∷ ys) (in_front_without n (number x) xs (eqb-false (number x) n other))
       ∙ sym (cond-false (number x == n) _ _ other))
 
-module _ {S : Type 0} (busy : BusyTime) (window keep : ℕ) where
+module _ {S : Type 0} (busy : RestartPolicy) (window keep : ℕ) where
   latest_is : (h : List (Event S)) (source id : ℕ) → of_number id_of id (recent busy window keep h source) ≡ latest_fresh busy window keep h source id
   latest_is [] source id = refl
   latest_is (Set _ _ ∷ h) source id = latest_is h source id

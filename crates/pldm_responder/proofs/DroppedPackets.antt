@@ -15,11 +15,11 @@ use Rattle.pldm_responder.specs.Rooms.{AreRowsAfter}
 use Rattle.pldm_responder.specs.Slots.{kept_in, source_count}
 use Rattle.pldm_responder.specs.ResponderViews.{ResponderView, held_of}
 use Rattle.pldm_responder.specs.Steps.{arrival_commands, arrival_held, arrival_outcome, open_after, received_arrival}
-use Rattle.pldm_responder.specs.declared.arriving.Arrived.{Arrived}
+use Rattle.pldm_responder.specs.declared.arriving.Disposition.{Disposition}
 use Rattle.pldm_responder.specs.declared.outcome.Outcome.TheVariants.{Dropped}
 
 -- what the packet of these bytes brought is what the bytes did
-pub arrived_in : (old : End) (moment : ℕ) (bytes : List ℕ) (new : End) (arrived : Arrived) {p : Packet} → request_packet old.own bytes ≡ Ok p
+pub arrived_in : (old : End) (moment : ℕ) (bytes : List ℕ) (new : End) (arrived : Disposition) {p : Packet} → request_packet old.own bytes ≡ Ok p
     → HasArrived old moment (Ok p) new arrived → HasArrived old moment (request_packet old.own bytes) new arrived
 arrived_in old moment bytes new arrived is has = subst (λ read. HasArrived old moment read new arrived) (sym is) has
 

@@ -14,8 +14,8 @@ use Rattle.pldm_responder.specs.Recency.{of_number, renewed}
 use Rattle.pldm_responder.specs.Slots.{Answers, AreKept, AreKeptTo, IsKept, Rows, answers_in, entry_in, row_of}
 use Rattle.pldm_responder.specs.Steps.{entry_for, performs, refuses_now, repeats}
 use Rattle.pldm_responder.specs.declared.answering_end.TheConstants.{MAX_KEPT}
-use Rattle.pldm_responder.specs.declared.arriving.Standing.{Standing}
-use Rattle.pldm_responder.specs.declared.arriving.Standing.TheVariants.{Busy, Copy, Fresh}
+use Rattle.pldm_responder.specs.declared.arriving.RequestClass.{RequestClass}
+use Rattle.pldm_responder.specs.declared.arriving.RequestClass.TheVariants.{Busy, Copy, Fresh}
 use Rattle.pldm_responder.proofs.CountedPairs.{few_pairs}
 use Rattle.pldm_responder.proofs.FewSources.{place, place_low, same_place}
 
@@ -50,7 +50,7 @@ copy_by true keep m o reply is same some = cc
 copy_by false keep m None reply is same some = cc
 copy_by false keep m (Some e) reply is same some = subst (λ bytes. 0 < length bytes) (sym same) some
 
-pub reply_has_bytes : {S : Type 0} (held : ResponderState S) (m : Message) (reply : List ℕ) (is : Standing) → is ≡ standing held m → IsReply held m reply is → IfSome (entry_for held m) (λ e. 0 < length e.answer) → (is ≡ Fresh → ⊥) → 0 < length reply
+pub reply_has_bytes : {S : Type 0} (held : ResponderState S) (m : Message) (reply : List ℕ) (is : RequestClass) → is ≡ standing held m → IsReply held m reply is → IfSome (entry_for held m) (λ e. 0 < length e.answer) → (is ≡ Fresh → ⊥) → 0 < length reply
 reply_has_bytes held m reply Busy is made some done = made.1
 reply_has_bytes held m reply Copy is made some done = copy_by (refuses_now held m) held.keep m (entry_for held m) reply is made some
 reply_has_bytes held m reply Fresh is made some done = absurd (done refl)
@@ -110,8 +110,8 @@ performs_by true u h = cc
 performs_by false true h = cc
 performs_by false false h = refl
 
-pub not_performed : {S : Type 0} (held : ResponderState S) (m : Message) (is : Standing) → is ≡ standing held m → (is ≡ Fresh → ⊥) → performs held m ≡ true → ⊥
+pub not_performed : {S : Type 0} (held : ResponderState S) (m : Message) (is : RequestClass) → is ≡ standing held m → (is ≡ Fresh → ⊥) → performs held m ≡ true → ⊥
 not_performed held m is told done performed = done (told ∙ fresh_by (refuses_now held m) (repeats held.keep m (entry_for held m)) performed)
 
-pub fresh_is_performed : {S : Type 0} (held : ResponderState S) (m : Message) (is : Standing) → is ≡ standing held m → is ≡ Fresh → performs held m ≡ true
+pub fresh_is_performed : {S : Type 0} (held : ResponderState S) (m : Message) (is : RequestClass) → is ≡ standing held m → is ≡ Fresh → performs held m ≡ true
 fresh_is_performed held m is told fresh = performs_by (refuses_now held m) (repeats held.keep m (entry_for held m)) (sym fresh ∙ told)

@@ -5,8 +5,8 @@ use Rattle.std.proofs.lemmas.Bool.{cases_Bool, cond_both, and_right, cond-false}
 use Rattle.std.proofs.lemmas.Nat.{mod_below}
 use Rattle.pldm_wire.specs.Headers.{id_at}
 use Rattle.pldm_wire.specs.declared.assigned.TheConstants.{INSTANCE_IDS}
-use Rattle.pldm_wire.specs.declared.busy_time.BusyTime.{BusyTime}
-use Rattle.pldm_wire.specs.declared.busy_time.BusyTime.TheVariants.{All}
+use Rattle.pldm_wire.specs.declared.restart_policy.RestartPolicy.{RestartPolicy}
+use Rattle.pldm_wire.specs.declared.restart_policy.RestartPolicy.TheVariants.{All}
 use Rattle.pldm_platform.specs.Changes.{changed_or}
 use Rattle.pldm_responder.specs.Arrivals.{Arrival, Drop, Part, Whole, packets_back}
 use Rattle.pldm_responder.specs.Calls.{answer_expected, arrived, events, outcome_expected}
@@ -36,7 +36,7 @@ found_after {A} number x xs n true true = ⊎_elim
     ∙ sym (ap (λ b. if b && true then Some x else of_number number n xs) other))
     (cases_Bool (number x == n))
 
-module _ {S : Type 0} (busy : BusyTime) (window keep : ℕ) where
+module _ {S : Type 0} (busy : RestartPolicy) (window keep : ℕ) where
   pub recent_apart : (h : List (Event S)) (source : ℕ) → Apart id_of (recent busy window keep h source)
   recent_apart [] source = tt
   recent_apart (Set _ _ ∷ h) source = recent_apart h source

@@ -7,7 +7,7 @@ use Rattle.mctp_packet.specs.declared.reason.Reason.TheVariants.{Short, BadTag, 
 use Rattle.mctp_assembly.specs.Keys.{key_cmp}
 use Rattle.pldm_wire.specs.CommandReading.{command_of}
 use Rattle.pldm_wire.specs.Requests.{request_of}
-use Rattle.pldm_wire.specs.declared.busy_time.BusyTime.TheVariants.{All, Sets}
+use Rattle.pldm_wire.specs.declared.restart_policy.RestartPolicy.TheVariants.{All, Sets}
 use Rattle.pldm_wire.specs.declared.command.Command.TheVariants.{GetTid}
 use Rattle.pldm_responder.specs.Arrivals.{Arrival, Whole, message_of}
 use Rattle.pldm_responder.specs.Calls.{Call, Received, Sensed, Restart, Updated, Assigned, events, outcome}

@@ -3,9 +3,9 @@ use Rattle.std.specs.Prelude.{◌≡◌, ℕ, ◌+◌, ◌≤◌, Bool, true, fa
 use Rattle.pldm_wire.specs.Headers.{id_at}
 use Rattle.pldm_wire.specs.Kinds.{TypeAndCommand}
 use Rattle.pldm_wire.specs.Requests.{request_of}
-use Rattle.pldm_wire.specs.declared.busy_time.BusyTime.{BusyTime}
-use Rattle.pldm_wire.specs.declared.busy_time.BusyTime.TheVariants.{All, Sets}
-use Rattle.pldm_wire.specs.declared.handed_on.HandedOn.{HandedOn}
+use Rattle.pldm_wire.specs.declared.restart_policy.RestartPolicy.{RestartPolicy}
+use Rattle.pldm_wire.specs.declared.restart_policy.RestartPolicy.TheVariants.{All, Sets}
+use Rattle.pldm_wire.specs.declared.pass_through.PassThrough.{PassThrough}
 use Rattle.pldm_wire.specs.declared.command.Command.{Command}
 use Rattle.pldm_responder.specs.Arrivals.{Arrival, Drop, Part, Whole}
 use Rattle.pldm_responder.specs.Calls.{Call, arrived, events}
@@ -17,7 +17,7 @@ use Rattle.pldm_responder.specs.Steps.{received_commands, received_tasks}
 use Rattle.pldm_responder.specs.TheRule.{others_since}
 
 -- `asks` says what the bytes of a request ask
-module _ {S A : Type 0} (asks : List ℕ → List A) (busy : BusyTime) (window keep : ℕ) where
+module _ {S A : Type 0} (asks : List ℕ → List A) (busy : RestartPolicy) (window keep : ℕ) where
   -- what it is asked for an arrival after these events, if anything
   abbrev pub asked_by : List (Event S) → Arrival → List A
   asked_by events (Drop reason) = []
@@ -32,7 +32,7 @@ module _ {S A : Type 0} (asks : List ℕ → List A) (busy : BusyTime) (window k
   askings (Restarted moment ∷ events) = askings events
   askings (Changed state ∷ events) = askings events
 
-module _ {S : Type 0} (busy : BusyTime) (window keep : ℕ) where
+module _ {S : Type 0} (busy : RestartPolicy) (window keep : ℕ) where
   -- the command that it is asked for an arrival after these events, if any
   abbrev pub asked_for : List (Event S) → Arrival → List Command
   asked_for events a = asked_by commands_of busy window keep events a
@@ -49,7 +49,7 @@ module _ {S : Type 0} (busy : BusyTime) (window keep : ℕ) where
 -- what bytes have the platform perform is what looking back over all calls says
 abbrev pub CommandsLookBack : {S : Type 0} → Rules S → Type 0
 CommandsLookBack {S} device =
-    (own : ℕ) (busy : BusyTime) (window keep : ℕ) (start : S) (held : ResponderState S) (calls : List (Call S))
+    (own : ℕ) (busy : RestartPolicy) (window keep : ℕ) (start : S) (held : ResponderState S) (calls : List (Call S))
     (moment : ℕ) (bytes : List ℕ)
     → IsLeftBy device own busy window keep start held calls
     → received_commands held moment bytes
@@ -58,7 +58,7 @@ CommandsLookBack {S} device =
 -- and so is what bytes ask of a device that these requests are handed on to as bytes
 abbrev pub TasksLookBack : {S : Type 0} → Rules S → Type 0
 TasksLookBack {S} device =
-    (hands_on : TypeAndCommand → Bool) (own : ℕ) (busy : BusyTime) (window keep : ℕ) (start : S) (held : ResponderState S)
+    (hands_on : TypeAndCommand → Bool) (own : ℕ) (busy : RestartPolicy) (window keep : ℕ) (start : S) (held : ResponderState S)
     (calls : List (Call S)) (moment : ℕ) (bytes : List ℕ)
     → IsLeftBy device own busy window keep start held calls
     → received_tasks held hands_on moment bytes
@@ -68,7 +68,7 @@ TasksLookBack {S} device =
 -- request of that source and instance ID, or as many other instance IDs of that source as the window has
 abbrev pub AskedApart : Type 0 → Type 0
 AskedApart S =
-    (busy : BusyTime) (window keep : ℕ) (before later : List (Event S)) (first again : Message)
+    (busy : RestartPolicy) (window keep : ℕ) (before later : List (Event S)) (first again : Message)
     → is_fresh busy window keep before first ≡ true
     → is_fresh busy window keep (later ++ Came first ∷ before) again ≡ true
     → again.source ≡ first.source → again.bytes ≡ first.bytes
@@ -78,7 +78,7 @@ AskedApart S =
     ≤ length (others_since busy window keep (later ++ Came first ∷ before) first.source (id_at first.bytes)))
 
 -- the requests that are handed on as bytes, where the busy time distinguishes them
-abbrev pub Covers : BusyTime → HandedOn → Type 0
+abbrev pub Covers : RestartPolicy → PassThrough → Type 0
 Covers All handed = Unit {0}
 Covers (Sets own) handed = own ≡ handed
 
@@ -86,7 +86,7 @@ Covers (Sets own) handed = own ≡ handed
 -- last restart, and not before
 abbrev pub SetsAfterBusyTime : Type 0 → Type 0
 SetsAfterBusyTime S =
-    (handed : HandedOn) (busy : BusyTime) (window keep : ℕ) (events : List (Event S)) (m : Message)
+    (handed : PassThrough) (busy : RestartPolicy) (window keep : ℕ) (events : List (Event S)) (m : Message)
     → Covers busy handed
     → sets_in handed (request_of m.bytes) ≡ true → is_fresh busy window keep events m ≡ true
     → busy_until keep events ≤ m.moment

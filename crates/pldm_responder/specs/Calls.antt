@@ -8,7 +8,7 @@ use Rattle.mctp_assembly.specs.Keys.{key_of}
 use Rattle.mctp_assembly.specs.Rows as rows
 use Rattle.mctp_assembly.specs.declared.fed.Fed.{Fed}
 use Rattle.mctp_assembly.specs.declared.key.Key.{Key}
-use Rattle.pldm_wire.specs.declared.busy_time.BusyTime.{BusyTime}
+use Rattle.pldm_wire.specs.declared.restart_policy.RestartPolicy.{RestartPolicy}
 use Rattle.pldm_responder.specs.Events.{Message, Event, Came, Set, Restarted, Changed, is_copy, is_refused}
 use Rattle.pldm_responder.specs.Performing.{Rules, changes, busy_reply, performed, answered}
 use Rattle.pldm_responder.specs.Arrivals.{Arrival, Drop, Part, Whole, arrival, request_packet, packets_back}
@@ -81,7 +81,7 @@ last_moment (Updated state ∷ calls) = last_moment calls
 last_moment (Ended key ∷ calls) = last_moment calls
 last_moment (Assigned moment before ∷ calls) = moment
 
-module _ {S : Type 0} (device : Rules S) (own : ℕ) (busy : BusyTime) (window keep : ℕ) (start : S) where
+module _ {S : Type 0} (device : Rules S) (own : ℕ) (busy : RestartPolicy) (window keep : ℕ) (start : S) where
   -- the outcome that is expected to a message after these events: refused as busy, a copy, or fresh
   abbrev pub answer_expected : List (Event S) → Message → Outcome
   answer_expected events m =

@@ -8,19 +8,19 @@ use Rattle.mctp_packet.specs.declared.TheConstants.{NULL_EID}
 use Rattle.mctp_assembly.specs.Keys.{IsKey, key_cmp, coded_key}
 use Rattle.mctp_assembly.specs.Opened.{Opened, coded_opened}
 use Rattle.mctp_assembly.specs.declared.key.Key.{Key}
-use Rattle.pldm_wire.specs.contracts.busy_time.BusyTime as busy_type
-use Rattle.pldm_wire.specs.declared.busy_time.BusyTime.{BusyTime}
+use Rattle.pldm_wire.specs.contracts.busy_time.RestartPolicy as busy_type
+use Rattle.pldm_wire.specs.declared.restart_policy.RestartPolicy.{RestartPolicy}
 use Rattle.pldm_responder.specs.ResponderStates.{Entry, ResponderState}
 use Rattle.pldm_responder.specs.Slots.{Rows, coded_rows, kept_in, row_of, source_count}
 use Rattle.pldm_responder.specs.declared.bounds.Bounds.{Bounds}
-use Rattle.pldm_responder.specs.declared.keeping.Keeping.{Keeping}
+use Rattle.pldm_responder.specs.declared.responder_settings.ResponderSettings.{ResponderSettings}
 
 -- its endpoint ID, the null one where it has none yet, what it refuses in the busy time, its keeping time and bounds,
 -- whether its oldest open message ends where one more would pass its bound, what is open on each key, the keys on which
 -- messages began, the oldest first, the rows of kept answers, the moment from which it serves, and the last moment
 pub record End : Type 0 where
   pub own : ℕ
-  pub busy : BusyTime
+  pub busy : RestartPolicy
   pub keep : ℕ
   pub bounds : Bounds
   pub ends_oldest : Bool
@@ -48,7 +48,7 @@ coded_bounds =
 abbrev pub coded_end : Coded End
 coded_end =
     code_by
-    (ℕ × (BusyTime × (ℕ × (Bounds × (Bool × (map.FinMap key_cmp Opened × (List Key × (Rows × (ℕ × ℕ)))))))))
+    (ℕ × (RestartPolicy × (ℕ × (Bounds × (Bool × (map.FinMap key_cmp Opened × (List Key × (Rows × (ℕ × ℕ)))))))))
     (coded× coded_ℕ (coded× busy_type.the_row.coded (coded× coded_ℕ (coded× coded_bounds (coded× coded_bool
     (coded× (map.code coded_key coded_opened) (coded× (coded_list coded_key) (coded× coded_rows
     (coded× coded_ℕ coded_ℕ)))))))))
@@ -96,7 +96,7 @@ abbrev pub no_rows : ℕ → Rows
 no_rows window = record { window = window; places = 0; list = [] }
 
 -- one to which nothing has come yet
-abbrev pub end_at_first : ℕ → Keeping → Bounds → Bool → End
+abbrev pub end_at_first : ℕ → ResponderSettings → Bounds → Bool → End
 end_at_first own keeping bounds ends_oldest = record {
   own = own;
   busy = keeping.busy;

@@ -9,9 +9,9 @@ use Rattle.pldm_wire.specs.Headers.{id_at}
 use Rattle.pldm_wire.specs.Requests.{Request, request_of}
 use Rattle.pldm_wire.specs.HandingOn.{hands_on}
 use Rattle.pldm_wire.specs.Settings.{reads_set}
-use Rattle.pldm_wire.specs.declared.busy_time.BusyTime.{BusyTime}
-use Rattle.pldm_wire.specs.declared.busy_time.BusyTime.TheVariants.{All, Sets}
-use Rattle.pldm_wire.specs.declared.handed_on.HandedOn.{HandedOn}
+use Rattle.pldm_wire.specs.declared.restart_policy.RestartPolicy.{RestartPolicy}
+use Rattle.pldm_wire.specs.declared.restart_policy.RestartPolicy.TheVariants.{All, Sets}
+use Rattle.pldm_wire.specs.declared.pass_through.PassThrough.{PassThrough}
 use Rattle.pldm_responder.specs.Recency.{of_number, renewed}
 
 -- a whole message with a good header: the endpoint that it came from, the tag of its packets, the moment of the last of
@@ -48,18 +48,18 @@ abbrev pub is_busy : {S : Type 0} → ℕ → List (Event S) → ℕ → Bool
 is_busy keep events moment = nat_lt moment (busy_until keep events)
 
 -- a request sets something: its command does, or it is handed on as bytes and may do so
-abbrev pub sets_in : HandedOn → Result Request Reason → Bool
+abbrev pub sets_in : PassThrough → Result Request Reason → Bool
 sets_in handed (Ok request) =
     hands_on handed request.kind || reads_set (command_of request.kind request.rest)
 sets_in handed (Err reason) = false
 
 -- whether a request is refused in the busy time
-abbrev pub refuses_bytes : BusyTime → List ℕ → Bool
+abbrev pub refuses_bytes : RestartPolicy → List ℕ → Bool
 refuses_bytes All bytes = true
 refuses_bytes (Sets handed) bytes = sets_in handed (request_of bytes)
 
 -- m is answered with ERROR_NOT_READY
-abbrev pub is_refused : {S : Type 0} → BusyTime → ℕ → List (Event S) → Message → Bool
+abbrev pub is_refused : {S : Type 0} → RestartPolicy → ℕ → List (Event S) → Message → Bool
 is_refused busy keep events m = refuses_bytes busy m.bytes && is_busy keep events m.moment
 
 -- ---- copies
@@ -81,7 +81,7 @@ is_copy_of keep m (Some place) = bytes_eq m.bytes place.message.bytes && nat_lt 
 abbrev pub origin_among : {S : Type 0} → ℕ → List (Place S) → ℕ → Option (Place S)
 origin_among window places id = of_number id_of id (take window places)
 
-module _ {S : Type 0} (busy : BusyTime) (window keep : ℕ) where
+module _ {S : Type 0} (busy : RestartPolicy) (window keep : ℕ) where
   -- m is neither refused in the busy time nor a copy, where these are the recent fresh messages of its source
   abbrev pub is_fresh_after : List (Place S) → List (Event S) → Message → Bool
   is_fresh_after places events m =

@@ -13,8 +13,8 @@ use Rattle.pldm_wire.specs.Messages.{IsResponse}
 use Rattle.pldm_wire.specs.Requests.{Request, request_of}
 use Rattle.pldm_wire.specs.declared.assigned.TheConstants.{ERROR_NOT_READY}
 use Rattle.pldm_wire.specs.declared.assigned.TheConstants.{INSTANCE_IDS}
-use Rattle.pldm_wire.specs.declared.busy_time.BusyTime.{BusyTime}
-use Rattle.pldm_wire.specs.declared.busy_time.BusyTime.TheVariants.{All}
+use Rattle.pldm_wire.specs.declared.restart_policy.RestartPolicy.{RestartPolicy}
+use Rattle.pldm_wire.specs.declared.restart_policy.RestartPolicy.TheVariants.{All}
 use Rattle.pldm_responder.specs.EachId as each_id
 use Rattle.pldm_responder.specs.Events.{Event, Message, Place, busy_until, is_copy, is_fresh, is_kept, origin, recent}
 use Rattle.pldm_responder.specs.Performing.{Rules, answered, performed, reply_at, busy_reply}
@@ -26,7 +26,7 @@ use Rattle.pldm_responder.specs.ResponderViews.{ResponderView, held_of, with_pla
 use Rattle.pldm_responder.specs.declared.outcome.Outcome.TheVariants.{Dropped}
 use Rattle.pldm_responder.specs.Steps.{kept_for, received_commands, received_outcome, received_held, sensed_held, restarted_held, assigned_held, updated_held}
 
-module _ {S : Type 0} (device : Rules S) (busy : BusyTime) (window keep : ℕ) (start : S) where
+module _ {S : Type 0} (device : Rules S) (busy : RestartPolicy) (window keep : ℕ) (start : S) where
   -- the answer that is kept to the message at a place
   abbrev pub entry_at : Place S → Entry
   entry_at place = record {
@@ -42,7 +42,7 @@ module _ {S : Type 0} (device : Rules S) (busy : BusyTime) (window keep : ℕ) (
 -- what is held is what the calls leave of a responder with this endpoint ID, busy time, window, keeping time and first
 -- state
 pub record IsLeftBy {S : Type 0}
-    (device : Rules S) (own : ℕ) (busy : BusyTime) (window keep : ℕ) (start : S) (held : ResponderState S)
+    (device : Rules S) (own : ℕ) (busy : RestartPolicy) (window keep : ℕ) (start : S) (held : ResponderState S)
     (calls : List (Call S)) : Type 0 where
   pub endpoint : held.own ≡ own
   pub refusing : held.busy ≡ busy
@@ -58,7 +58,7 @@ module _ {S : Type 0} (device : Rules S) where
   -- bytes that are received give what looking back over all calls says, and leave what the longer list leaves
   abbrev pub ReceivedLooksBack : Type 0
   ReceivedLooksBack =
-      (own : ℕ) (busy : BusyTime) (window keep : ℕ) (start : S)
+      (own : ℕ) (busy : RestartPolicy) (window keep : ℕ) (start : S)
       (held : ResponderState S) (calls : List (Call S)) (moment : ℕ) (bytes : List ℕ)
       → IsLeftBy device own busy window keep start held calls
       → (received_outcome device held moment bytes ≡ outcome device own busy window keep start calls moment bytes)
@@ -67,28 +67,28 @@ module _ {S : Type 0} (device : Rules S) where
   -- a reading leaves what the longer list leaves
   abbrev pub SensedLooksBack : Type 0
   SensedLooksBack =
-      (own : ℕ) (busy : BusyTime) (window keep : ℕ) (start : S) (held : ResponderState S) (calls : List (Call S)) (id : ℕ) (value : ℤ)
+      (own : ℕ) (busy : RestartPolicy) (window keep : ℕ) (start : S) (held : ResponderState S) (calls : List (Call S)) (id : ℕ) (value : ℤ)
       → IsLeftBy device own busy window keep start held calls
       → IsLeftBy device own busy window keep start (sensed_held device held id value) (Sensed id value ∷ calls)
 
   -- a change from outside leaves what the longer list leaves
   abbrev pub UpdatedLooksBack : Type 0
   UpdatedLooksBack =
-      (own : ℕ) (busy : BusyTime) (window keep : ℕ) (start : S) (held : ResponderState S) (calls : List (Call S)) (state : S)
+      (own : ℕ) (busy : RestartPolicy) (window keep : ℕ) (start : S) (held : ResponderState S) (calls : List (Call S)) (state : S)
       → IsLeftBy device own busy window keep start held calls
       → IsLeftBy device own busy window keep start (updated_held held state) (Updated state ∷ calls)
 
   -- a restart leaves what the longer list leaves
   abbrev pub RestartedLooksBack : Type 0
   RestartedLooksBack =
-      (own : ℕ) (busy : BusyTime) (window keep : ℕ) (start : S) (held : ResponderState S) (calls : List (Call S)) (moment : ℕ)
+      (own : ℕ) (busy : RestartPolicy) (window keep : ℕ) (start : S) (held : ResponderState S) (calls : List (Call S)) (moment : ℕ)
       → IsLeftBy device own busy window keep start held calls
       → IsLeftBy device own busy window keep start (restarted_held held moment) (Restart moment ∷ calls)
 
   -- so does another endpoint ID that is assigned
   abbrev pub AssignedLooksBack : Type 0
   AssignedLooksBack =
-      (own : ℕ) (busy : BusyTime) (window keep : ℕ) (start : S) (held : ResponderState S) (calls : List (Call S)) (moment eid : ℕ)
+      (own : ℕ) (busy : RestartPolicy) (window keep : ℕ) (start : S) (held : ResponderState S) (calls : List (Call S)) (moment eid : ℕ)
       → IsLeftBy device own busy window keep start held calls
       → IsLeftBy device eid busy window keep start (assigned_held held moment eid) (Assigned moment own ∷ calls)
 
@@ -102,26 +102,26 @@ module _ {S : Type 0} (device : Rules S) where
   -- an open message that ends leaves what the longer list leaves: to its sender it is a lost packet
   abbrev pub EndedLooksBack : Type 0
   EndedLooksBack =
-      (own : ℕ) (busy : BusyTime) (window keep : ℕ) (start : S) (held : ResponderState S) (calls : List (Call S)) (key : Key)
+      (own : ℕ) (busy : RestartPolicy) (window keep : ℕ) (start : S) (held : ResponderState S) (calls : List (Call S)) (key : Key)
       → IsLeftBy device own busy window keep start held calls
       → IsLeftBy device own busy window keep start (ended_held (Some key) held) (Ended key ∷ calls)
 
   -- a new responder holds what the empty list leaves
   abbrev pub NewLooksBack : Type 0
   NewLooksBack =
-      (own : ℕ) (busy : BusyTime) (window keep : ℕ) (start : S)
+      (own : ℕ) (busy : RestartPolicy) (window keep : ℕ) (start : S)
       → IsLeftBy device own busy window keep start (held_at_first own busy window keep start) []
 
   -- what holds the same is left by the same calls
   abbrev pub SameIsLeft : Type 0
   SameIsLeft =
-      (own : ℕ) (busy : BusyTime) (window keep : ℕ) (start : S) (new held : ResponderState S) (calls : List (Call S))
+      (own : ℕ) (busy : RestartPolicy) (window keep : ℕ) (start : S) (new held : ResponderState S) (calls : List (Call S))
       → IsHeld new held → IsLeftBy device own busy window keep start held calls → IsLeftBy device own busy window keep start new calls
 
   -- an answer is kept for each source and instance ID that has an origin, and for no other
   abbrev pub KeptWhereFresh : Type 0
   KeptWhereFresh =
-      (own : ℕ) (busy : BusyTime) (window keep : ℕ) (start : S) (held : ResponderState S) (calls : List (Call S))
+      (own : ℕ) (busy : RestartPolicy) (window keep : ℕ) (start : S) (held : ResponderState S) (calls : List (Call S))
       → IsLeftBy device own busy window keep start held calls
       → ((source id : ℕ)
       → is_some (kept_for held source id) ≡ is_kept busy window keep (events own calls) source id)

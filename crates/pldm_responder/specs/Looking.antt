@@ -16,14 +16,14 @@ use Rattle.pldm_responder.specs.OpenOrder.{begun_passed, ended_passed, is_shut_o
 use Rattle.pldm_responder.specs.Performing.{busy_reply}
 use Rattle.pldm_responder.specs.Requested.{Requested}
 use Rattle.pldm_responder.specs.Steps.{entry_for, received_arrival, refuses_now, repeats}
-use Rattle.pldm_responder.specs.declared.arriving.Arrived.{Arrived}
-use Rattle.pldm_responder.specs.declared.arriving.Arrived.TheVariants.{Dropped, Partial, Request}
+use Rattle.pldm_responder.specs.declared.arriving.Disposition.{Disposition}
+use Rattle.pldm_responder.specs.declared.arriving.Disposition.TheVariants.{Dropped, Partial, Request}
 use Rattle.pldm_responder.specs.declared.arriving.RoomRefusal.{RoomRefusal}
 use Rattle.pldm_responder.specs.declared.arriving.RoomRefusal.TheVariants.{Sources, OpenMessages}
-use Rattle.pldm_responder.specs.declared.arriving.Standing.{Standing}
-use Rattle.pldm_responder.specs.declared.arriving.Standing.TheVariants.{Busy, Copy, Fresh}
-use Rattle.pldm_responder.specs.declared.arriving.Taken.{Taken}
-use Rattle.pldm_responder.specs.declared.arriving.Taken.TheVariants as taken
+use Rattle.pldm_responder.specs.declared.arriving.RequestClass.{RequestClass}
+use Rattle.pldm_responder.specs.declared.arriving.RequestClass.TheVariants.{Busy, Copy, Fresh}
+use Rattle.pldm_responder.specs.declared.arriving.Intake.{Intake}
+use Rattle.pldm_responder.specs.declared.arriving.Intake.TheVariants as taken
 
 -- the message that it is, whose last packet came at this moment
 abbrev pub message_at : ℕ → Requested → Message
@@ -34,7 +34,7 @@ abbrev pub assembly_key : ℕ → ℕ → Key
 assembly_key source tag = record { source = source; tag = tag; owner = true }
 
 -- ---- a packet is looked at
-abbrev pub arrival_in : ℕ → Arrived → Arrival
+abbrev pub arrival_in : ℕ → Disposition → Arrival
 arrival_in moment (Dropped reason) = Drop reason
 arrival_in moment Partial = Part
 arrival_in moment (Request r) = Whole (message_at moment r)
@@ -68,14 +68,14 @@ pub record IsRequestTo (end : End) (r : Requested) : Type 0 where
   pub here : r.destination ≡ end.own
 
 -- the packet was taken; but with the request that it completes nothing is done yet
-abbrev pub IsLookedAt : End → ℕ → Result Packet Reason → End → Arrived → Type 0
+abbrev pub IsLookedAt : End → ℕ → Result Packet Reason → End → Disposition → Type 0
 IsLookedAt old moment read new (Dropped reason) = new ≡ end_taken old moment read
 IsLookedAt old moment read new Partial = new ≡ end_taken old moment read
 IsLookedAt old moment read new (Request r) =
     (new ≡ old) × IsRequestTo old r × (end_finished old moment r ≡ end_taken old moment read)
 
 -- a packet that was read so brought this
-pub record HasArrived (old : End) (moment : ℕ) (read : Result Packet Reason) (new : End) (arrived : Arrived) : Type 0 where
+pub record HasArrived (old : End) (moment : ℕ) (read : Result Packet Reason) (new : End) (arrived : Disposition) : Type 0 where
   pub arrival : arrival_in moment arrived ≡ passed_arrival (assembly.answer old.open_messages) moment read
   pub left : IsLookedAt old moment read new arrived
 
@@ -96,7 +96,7 @@ pub record IsLastFor (end : End) (p : Packet) : Type 0 where
 -- the packet was taken; or it was refused, and the end is as before: for the open messages exactly where it is shut
 -- out, and never for the sources
 pub record IsTakenOrRefused
-    (old : End) (moment : ℕ) (p : Packet) (new : End) (result : Result Arrived RoomRefusal) : Type 0 where
+    (old : End) (moment : ℕ) (p : Packet) (new : End) (result : Result Disposition RoomRefusal) : Type 0 where
   pub ok : IfOk result (HasArrived old moment (Ok p) new)
   pub err : OnErr result (new ≡ old)
   pub sources : IsErrOf result Sources → ⊥
@@ -112,12 +112,12 @@ pub record IsLast (old : End) (bytes : List ℕ) (new : End) (p : Packet) : Type
   pub last : IsLastFor old p
   pub same : new ≡ old
 
-abbrev pub HasTaken : End → ℕ → List ℕ → End → Taken → Type 0
-HasTaken old moment bytes new (taken.Arrived arrived) = HasArrived old moment (request_packet old.own bytes) new arrived
+abbrev pub HasTaken : End → ℕ → List ℕ → End → Intake → Type 0
+HasTaken old moment bytes new (taken.Decided arrived) = HasArrived old moment (request_packet old.own bytes) new arrived
 HasTaken old moment bytes new (taken.Last p) = IsLast old bytes new p
 
 -- a whole message was read whose packets had this route
-abbrev pub IsReadBy : End → ℕ → Route → List ℕ → End → Arrived → Type 0
+abbrev pub IsReadBy : End → ℕ → Route → List ℕ → End → Disposition → Type 0
 IsReadBy old moment route bytes new (Dropped reason) = new ≡ end_closed old moment route.source route.tag
 IsReadBy old moment route bytes new Partial = ⊥
 IsReadBy old moment route bytes new (Request r) =
@@ -134,13 +134,13 @@ ended_by end bytes = ended_passed end (request_packet end.own bytes)
 
 -- ---- a request is looked at
 module _ {S : Type 0} (held : ResponderState S) (m : Message) where
-  abbrev pub standing : Standing
+  abbrev pub standing : RequestClass
   standing =
       if refuses_now held m then Busy
       else (if repeats held.keep m (entry_for held m) then Copy else Fresh)
 
   -- `reply` is the message that answers it, where there is one already
-  abbrev pub IsReply : List ℕ → Standing → Type 0
+  abbrev pub IsReply : List ℕ → RequestClass → Type 0
   IsReply reply Busy = (reply ≡ busy_reply m.bytes) × (0 < length reply)
   IsReply reply Copy = IfSome (entry_for held m) (λ e. reply ≡ e.answer)
   IsReply reply Fresh = Unit {0}

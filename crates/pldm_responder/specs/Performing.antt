@@ -10,7 +10,7 @@ use Rattle.pldm_wire.specs.Requests.{Request, request_of}
 use Rattle.pldm_wire.specs.declared.answer.Answer.{Answer}
 use Rattle.pldm_wire.specs.declared.answer.Answer.TheVariants.{Refused}
 use Rattle.pldm_wire.specs.declared.assigned.TheConstants.{ERROR_NOT_READY, SUCCESS}
-use Rattle.pldm_wire.specs.declared.busy_time.BusyTime.{BusyTime}
+use Rattle.pldm_wire.specs.declared.restart_policy.RestartPolicy.{RestartPolicy}
 use Rattle.pldm_wire.specs.declared.command.Command.{Command}
 use Rattle.pldm_platform.specs.Changes.{changed_or}
 use Rattle.pldm_platform.specs.declared.platform.ReadingFault.{ReadingFault}
@@ -131,7 +131,7 @@ tasks_of hands_on bytes = tasks_at hands_on (request_of bytes)
 abbrev pub busy_reply : List ℕ → List ℕ
 busy_reply bytes = busy_reply_to (request_of bytes)
 
-module _ {S : Type 0} (device : Rules S) (busy : BusyTime) (window keep : ℕ) (start : S) where
+module _ {S : Type 0} (device : Rules S) (busy : RestartPolicy) (window keep : ℕ) (start : S) where
   -- the platform's state: each fresh message is performed once, each reading set, and each change from outside put, in
   -- order
   abbrev pub performed : List (Event S) → S

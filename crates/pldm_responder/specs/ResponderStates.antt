@@ -3,7 +3,7 @@ use Rattle.std.specs.FinMap as map
 use Rattle.std.specs.Prelude.{◌≡◌, ℕ, List, []}
 use Rattle.mctp_assembly.specs.Steps as assembly
 use Rattle.pldm_wire.specs.Headers.{id_at}
-use Rattle.pldm_wire.specs.declared.busy_time.BusyTime.{BusyTime}
+use Rattle.pldm_wire.specs.declared.restart_policy.RestartPolicy.{RestartPolicy}
 
 -- a kept answer: when the fresh message came, its bytes, and the message that answered it, empty until there is one
 pub record Entry : Type 0 where
@@ -20,7 +20,7 @@ id_in entry = id_at entry.bytes
 -- platform, the moment from which it serves, and the last moment
 pub record ResponderState (S : Type 0) : Type 0 where
   pub own : ℕ
-  pub busy : BusyTime
+  pub busy : RestartPolicy
   pub window : ℕ
   pub keep : ℕ
   pub open_messages : assembly.OpenMessages
@@ -42,7 +42,7 @@ pub record IsHeld {S : Type 0} (new held : ResponderState S) : Type 0 where
   pub last : new.last ≡ held.last
 
 -- what a new one holds
-abbrev pub held_at_first : {S : Type 0} → ℕ → BusyTime → (window keep : ℕ) → S → ResponderState S
+abbrev pub held_at_first : {S : Type 0} → ℕ → RestartPolicy → (window keep : ℕ) → S → ResponderState S
 held_at_first own busy window keep state = record {
   own = own;
   busy = busy;

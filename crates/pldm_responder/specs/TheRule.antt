@@ -2,11 +2,11 @@
 -- within the keeping time, and fewer than `window` other instance IDs of that source had a fresh message since.
 use Rattle.std.specs.Prelude.{◌≡◌, ◌≤◌, ℕ, List, [], ◌∷◌, length, ◌&&◌, ◌==◌, not, nat_lt, Option, Some, None, if◌then◌else◌}
 use Rattle.pldm_wire.specs.Headers.{id_at}
-use Rattle.pldm_wire.specs.declared.busy_time.BusyTime.{BusyTime}
+use Rattle.pldm_wire.specs.declared.restart_policy.RestartPolicy.{RestartPolicy}
 use Rattle.pldm_responder.specs.Events.{Message, Event, Came, Set, Restarted, Changed, Place, is_copy, is_copy_of, is_fresh, is_of, is_refused}
 use Rattle.pldm_responder.specs.Recency.{renewed}
 
-module _ {S : Type 0} (busy : BusyTime) (window keep : ℕ) where
+module _ {S : Type 0} (busy : RestartPolicy) (window keep : ℕ) where
   -- the latest fresh message of a source and an instance ID since the last restart
   abbrev pub latest_fresh : List (Event S) → ℕ → ℕ → Option (Place S)
   latest_fresh [] source id = None
@@ -31,7 +31,7 @@ module _ {S : Type 0} (busy : BusyTime) (window keep : ℕ) where
 
 abbrev pub CopiesByTheRule : Type 0 → Type 0
 CopiesByTheRule S =
-    (busy : BusyTime) (window keep : ℕ) (events : List (Event S)) (m : Message)
+    (busy : RestartPolicy) (window keep : ℕ) (events : List (Event S)) (m : Message)
     → is_copy busy window keep events m
     ≡ (is_copy_of keep m (latest_fresh busy window keep events m.source (id_at m.bytes))
     && nat_lt (length (others_since busy window keep events m.source (id_at m.bytes))) window)
@@ -39,6 +39,6 @@ CopiesByTheRule S =
 -- whatever the source: once `window` other instance IDs had a fresh message, a request is performed anew, or refused
 abbrev pub FreshPastTheWindow : Type 0 → Type 0
 FreshPastTheWindow S =
-    (busy : BusyTime) (window keep : ℕ) (events : List (Event S)) (m : Message)
+    (busy : RestartPolicy) (window keep : ℕ) (events : List (Event S)) (m : Message)
     → window ≤ length (others_since busy window keep events m.source (id_at m.bytes))
     → is_fresh busy window keep events m ≡ not (is_refused busy keep events m)

@@ -18,18 +18,18 @@ ghost use Rattle.pldm_responder.specs.ResponderStates.{IsHeld};
 ghost use Rattle.pldm_responder.specs.Slots.{MayBeKept, entry_in, in_front, in_place, kept_in, row_of, source_count};
 ghost use Rattle.pldm_responder.specs.Steps.{assigned_held, received_arrival};
 
-use crate::arriving::{Arrived, Request, RoomRefusal, Standing, Taken};
+use crate::arriving::{Disposition, Intake, Request, RequestClass, RoomRefusal};
 use crate::bounds::Bounds;
-use crate::keeping::Keeping;
 use crate::kept_answers::{KeptAnswers, Reserved};
 use crate::open_order::{end_message, first_open, put_begun, reserve_begun};
 use crate::performing::refuse;
+use crate::responder_settings::ResponderSettings;
 use mctp_assembly::{Assembled, Assembler, Key};
 use mctp_packet::{
     Body, Eid, Keep, MAX_EID, MAX_MESSAGE_BYTES, MIN_EID, Memory, Moment, NULL_EID, PacketRef,
     Reason, Route, TAGS, Tag, read_for, reason_without_eid,
 };
-use pldm_wire::{BusyTime, Code, INSTANCE_IDS, read_request};
+use pldm_wire::{Code, INSTANCE_IDS, RestartPolicy, read_request};
 use std::alloc::Global;
 use std::marker::Model;
 
@@ -52,7 +52,7 @@ pub struct AnsweringEnd {
     /// Its endpoint ID: `None` before it got one.
     own: Option<Eid>,
     keep: Keep,
-    busy: BusyTime,
+    busy: RestartPolicy,
     bounds: Bounds,
     last: Moment,
     /// The moment in milliseconds from which it serves: the last restart's and the keeping time.
@@ -101,13 +101,13 @@ impl AnsweringEnd {
     pub fn new(
         alloc: Global,
         own: Option<Eid>,
-        keeping: Keeping,
+        keeping: ResponderSettings,
         bounds: Bounds,
         ends_oldest: bool,
     ) -> AnsweringEnd
         ensures { result ≡ end_at_first (eid_or_null own) keeping bounds ends_oldest }
     {
-        let Keeping { keep, window, busy } = keeping;
+        let ResponderSettings { keep, window, busy } = keeping;
         AnsweringEnd {
             alloc,
             own,
@@ -228,7 +228,7 @@ impl AnsweringEnd {
     /// are open as [`Bounds::open_messages`] allow: where the oldest ends, only if none may be open at all. `Memory`
     /// where a growth was refused. Only a start packet that gives `Partial` needs memory.
     #[inline(always)]
-    pub fn take<'a>(&mut self, now: Moment, bytes: &'a [u8]) -> Result<Taken<'a>, RoomRefusal>
+    pub fn take<'a>(&mut self, now: Moment, bytes: &'a [u8]) -> Result<Intake<'a>, RoomRefusal>
         ensures ok { IfOk result (HasTaken self.old now bytes.now self.new) }
         ensures err { OnErr result (self.new ≡ self.old) }
         ensures sources { IsErrOf result RoomRefusal.Sources → ⊥ }
@@ -237,23 +237,23 @@ impl AnsweringEnd {
         ensures needs { OnErr result (NeedsMemory (held_by self.old) true now bytes.now) }
     {
         let Some(own) = self.own else {
-            return Ok(Taken::Arrived(self.dropped(now, reason_without_eid(bytes))));
+            return Ok(Intake::Decided(self.dropped(now, reason_without_eid(bytes))));
         };
         let packet = match read_for(own, bytes) {
             Ok(packet) => packet,
-            Err(reason) => return Ok(Taken::Arrived(self.dropped(now, reason))),
+            Err(reason) => return Ok(Intake::Decided(self.dropped(now, reason))),
         };
         let route = packet.route();
         if !route.owner {
-            return Ok(Taken::Arrived(self.dropped(now, Reason::BadTag)));
+            return Ok(Intake::Decided(self.dropped(now, Reason::BadTag)));
         }
         if !packet.end() {
-            return Ok(Taken::Arrived(self.take_part(now, &packet)?));
+            return Ok(Intake::Decided(self.take_part(now, &packet)?));
         }
         if !packet.start() {
-            return Ok(Taken::Last(packet));
+            return Ok(Intake::Last(packet));
         }
-        Ok(Taken::Arrived(self.read(now, &route, packet.payload())))
+        Ok(Intake::Decided(self.read(now, &route, packet.payload())))
     }
 
     /// Takes a packet of a message of several packets that is not its last one. It is addressed to the endpoint by
@@ -264,7 +264,7 @@ impl AnsweringEnd {
         &mut self,
         now: Moment,
         packet: &PacketRef<'_>,
-    ) -> Result<Arrived<'a>, RoomRefusal>
+    ) -> Result<Disposition<'a>, RoomRefusal>
         requires goes_on { packet.now.end ≡ false }
         requires sent { IsSentTo self.old packet.now }
         ensures taken { IsTakenOrRefused self.old now packet.now self.new result }
@@ -276,8 +276,8 @@ impl AnsweringEnd {
         let given = self.assembler.feed_part(packet)?;
         self.last = now;
         Ok(match given {
-            Assembled::Whole | Assembled::Partial => Arrived::Partial,
-            Assembled::Dropped(reason) => Arrived::Dropped(reason),
+            Assembled::Whole | Assembled::Partial => Disposition::Partial,
+            Assembled::Dropped(reason) => Disposition::Dropped(reason),
         })
     }
 
@@ -288,7 +288,7 @@ impl AnsweringEnd {
         now: Moment,
         packet: &PacketRef<'_>,
         room: &'a mut Body,
-    ) -> Arrived<'a>
+    ) -> Disposition<'a>
         requires last { IsLastFor self.old packet.now }
         ensures { HasArrived self.old now (Ok packet.now) self.new result }
     {
@@ -296,11 +296,11 @@ impl AnsweringEnd {
             Ok(Assembled::Whole) => self.read(now, &packet.route(), room),
             Ok(Assembled::Partial) => {
                 self.last = now;
-                Arrived::Partial
+                Disposition::Partial
             }
             Ok(Assembled::Dropped(reason)) => {
                 self.last = now;
-                Arrived::Dropped(reason)
+                Disposition::Dropped(reason)
             }
             Err(_) => unreachable!(), // only a first packet takes memory
         }
@@ -308,7 +308,7 @@ impl AnsweringEnd {
 
     /// Reads a whole message, whose packets had this route. Where it is no request, its packets are no longer open.
     #[inline(always)]
-    fn read<'a>(&mut self, now: Moment, route: &Route, message: &'a [u8]) -> Arrived<'a>
+    fn read<'a>(&mut self, now: Moment, route: &Route, message: &'a [u8]) -> Disposition<'a>
         requires few { length message.now ≤ most }
         ensures arrival { arrival_in now result ≡ message_arrival route.now.source route.now.tag now message.now }
         ensures left { IsReadBy self.old now route.now message.now self.new result }
@@ -316,27 +316,31 @@ impl AnsweringEnd {
         match read_request(message) {
             Ok(read) => {
                 self.kept.look_for(route.source);
-                Arrived::Request(Request::new(route, message, read))
+                Disposition::Request(Request::new(route, message, read))
             }
             Err(reason) => {
                 self.forget(now, route.source, route.tag);
-                Arrived::Dropped(reason)
+                Disposition::Dropped(reason)
             }
         }
     }
 
     /// A packet that is dropped at the moment `now`, and touches nothing that is open.
     #[inline(always)]
-    fn dropped<'a>(&mut self, now: Moment, reason: Reason) -> Arrived<'a>
-        ensures value { result ≡ Arrived.Dropped reason }
+    fn dropped<'a>(&mut self, now: Moment, reason: Reason) -> Disposition<'a>
+        ensures value { result ≡ Disposition.Dropped reason }
         ensures left { self.new ≡ record self.old { last = now } }
     {
         self.last = now;
-        Arrived::Dropped(reason)
+        Disposition::Dropped(reason)
     }
 
     /// Takes a packet that begins a message of several packets. Where there is no room, the oldest message ends.
-    fn begin<'a>(&mut self, now: Moment, packet: &PacketRef<'_>) -> Result<Arrived<'a>, RoomRefusal>
+    fn begin<'a>(
+        &mut self,
+        now: Moment,
+        packet: &PacketRef<'_>,
+    ) -> Result<Disposition<'a>, RoomRefusal>
         requires begins { begins packet.now ≡ true }
         requires sent { IsSentTo self.old packet.now }
         ensures { IsTakenOrRefused self.old now packet.now self.new result }
@@ -352,7 +356,7 @@ impl AnsweringEnd {
             &self.assembler,
         );
         self.last = now;
-        Ok(Arrived::Partial)
+        Ok(Disposition::Partial)
     }
 
     /// The key whose message has to end so that a message can begin on this key.
@@ -378,21 +382,21 @@ impl AnsweringEnd {
     /// or a copy, is put into `reply`: nothing where the answer is still to come. For a fresh one what `reply` then
     /// holds is not specified.
     #[inline(always)]
-    pub fn standing(&self, now: Moment, request: &Request<'_>, reply: &mut Body) -> Standing
+    pub fn standing(&self, now: Moment, request: &Request<'_>, reply: &mut Body) -> RequestClass
         ensures standing { result ≡ standing (held_by self.now) (message_at now request.now) }
         ensures reply { IsReply (held_by self.now) (message_at now request.now) reply.new.items result }
     {
         if self.is_busy(now) && self.busy.refuses(request.read()) {
             refuse(request.read(), Code::ERROR_NOT_READY, reply);
-            return Standing::Busy;
+            return RequestClass::Busy;
         }
         match self.kept.get(request.source(), request.id()) {
             Some(kept) if kept.is_repeated(self.keep, now, request.bytes()) => {
                 reply.clear();
                 reply.try_extend_from_slice(kept.answer()).unwrap();
-                Standing::Copy
+                RequestClass::Copy
             }
-            _ => Standing::Fresh,
+            _ => RequestClass::Fresh,
         }
     }
 

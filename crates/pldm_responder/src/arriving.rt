@@ -135,9 +135,9 @@ impl<'a> Request<'a> {
 
 /// What becomes of the bytes of a packet as they are read.
 #[derive(Debug, Drop)]
-pub enum Taken<'a> {
+pub enum Intake<'a> {
     /// They give this, and nothing more is to be done with them.
-    Arrived(Arrived<'a>),
+    Decided(Disposition<'a>),
     /// They are the last packet of a message of several packets, with which nothing is done yet:
     /// [`crate::AnsweringEnd::take_last`] does.
     Last(PacketRef<'a>),
@@ -145,7 +145,7 @@ pub enum Taken<'a> {
 
 /// What becomes of the bytes of a packet, where they were only looked at.
 #[derive(Debug, Drop)]
-pub enum Arrived<'a> {
+pub enum Disposition<'a> {
     /// They are dropped, for one of the reasons 1 to 17.
     Dropped(Reason),
     /// They begin a message of several packets, or go on with one.
@@ -156,7 +156,7 @@ pub enum Arrived<'a> {
 
 /// What a request is to the endpoint that it came to.
 #[derive(Clone, Copy, Debug, PartialEq, Eq)]
-pub enum Standing {
+pub enum RequestClass {
     /// It came in the busy time.
     Busy,
     /// It is a copy of one whose answer is kept.

@@ -5,7 +5,6 @@
 mod answering_end;
 mod arriving;
 mod bounds;
-mod keeping;
 mod kept_answer;
 mod kept_answers;
 pub mod laws;
@@ -14,17 +13,18 @@ mod order;
 mod outcome;
 mod performing;
 mod responder;
+mod responder_settings;
 mod routes;
 mod row;
 mod slot_table;
 mod slots;
 
 pub use answering_end::{AnsweringEnd, MAX_KEPT, MAX_PENDING};
-pub use arriving::{Arrived, Request, RoomRefusal, Standing, Taken};
+pub use arriving::{Disposition, Intake, Request, RequestClass, RoomRefusal};
 pub use bounds::Bounds;
-pub use keeping::Keeping;
 pub use kept_answers::Reserved;
 pub use outcome::{MessageOutcome, Outcome};
 pub use performing::refuse;
 pub use responder::Responder;
+pub use responder_settings::ResponderSettings;
 pub use routes::{not_performed, performed};

@@ -6,7 +6,7 @@ ghost use Rattle.std.specs.Prelude.{◌≡◌, ◌≢◌, ℕ, ◌*◌, ◌≤�
 ghost use Rattle.mctp_assembly.specs.declared.key.Key.{Key as KeyValue};
 ghost use Rattle.pldm_platform.specs.Changes.{made_of};
 ghost use Rattle.pldm_wire.specs.declared.assigned.TheConstants.{INSTANCE_IDS};
-ghost use Rattle.pldm_wire.specs.declared.busy_time.BusyTime.TheVariants.{All};
+ghost use Rattle.pldm_wire.specs.declared.restart_policy.RestartPolicy.TheVariants.{All};
 ghost use Rattle.pldm_responder.specs.Answering.{HasReply, answering, outcome_on};
 ghost use Rattle.pldm_responder.specs.Arrivals.{request_packet, way_back};
 ghost use Rattle.pldm_responder.specs.Counts.{CountsKept};
@@ -23,11 +23,11 @@ ghost use Rattle.pldm_responder.specs.Ends.{eid_or_null, unreached};
 ghost use Rattle.pldm_responder.specs.contracts.responder.Responder.{the_row};
 
 use crate::answering_end::{AnsweringEnd, MAX_KEPT, MAX_PENDING};
-use crate::arriving::{Arrived, Request, RoomRefusal, Standing, Taken};
+use crate::arriving::{Disposition, Intake, Request, RequestClass, RoomRefusal};
 use crate::bounds::Bounds;
-use crate::keeping::Keeping;
 use crate::outcome::{MessageOutcome, Outcome};
 use crate::performing::perform;
+use crate::responder_settings::ResponderSettings;
 use crate::routes::outcome_on;
 use mctp_packet::{Body, Eid, Keep, MAX_MESSAGE_BYTES, Memory, Moment, PacketRef};
 use pldm_platform::{Platform, ReadingFault};
@@ -71,7 +71,7 @@ impl<P: Platform> Responder<P> {
         Responder::bounded(
             alloc,
             Some(own),
-            Keeping::each_for(keep),
+            ResponderSettings::each_for(keep),
             Bounds::UNREACHED,
             platform,
         )
@@ -82,7 +82,7 @@ impl<P: Platform> Responder<P> {
     pub fn bounded(
         alloc: Global,
         own: Option<Eid>,
-        keeping: Keeping,
+        keeping: ResponderSettings,
         bounds: Bounds,
         platform: P,
     ) -> Responder<P>
@@ -153,7 +153,7 @@ impl<P: Platform> Responder<P> {
     /// Restarts at the moment `now`, which must not be before [`Responder::last_moment`]. The kept
     /// answers and the messages that have begun are lost, and the platform is as before. For the
     /// keeping time from then on the responder is busy: a request that it answered before the restart
-    /// may still be repeated, so none is performed, or none of those that [`Keeping::busy`] names.
+    /// may still be repeated, so none is performed, or none of those that [`ResponderSettings::busy`] names.
     pub fn restart(&mut self, now: Moment)
         requires { (held_of self.old).last ≤ now }
         ensures held { IsHeld (held_of self.new) (restarted_held (held_of self.old) now) }
@@ -223,7 +223,7 @@ impl<P: Platform> Responder<P> {
     /// the same bytes, and came less than the keeping time before, and since then fewer other instance IDs of its
     /// source had such a request than the window counts: then it gets that request's answer. Else it is performed, and
     /// its answer is kept, a refusal too (DSP0240, "PLDM message fields", the instance ID). While the responder is
-    /// busy, each request that [`Keeping::busy`] names is answered with ERROR_NOT_READY, and neither performed nor
+    /// busy, each request that [`ResponderSettings::busy`] names is answered with ERROR_NOT_READY, and neither performed nor
     /// kept. The answer goes back to the source, with TO 0 and the tag of the packets that just came.
     ///
     /// # Errors
@@ -264,10 +264,12 @@ impl<P: Platform> Responder<P> {
         ensures refused { OnErr result (IsRefusedMemory P.performed self.old now bytes.now self.new P.STEADY) }
     {
         match self.end.take(now, bytes) {
-            Ok(Taken::Arrived(Arrived::Dropped(reason))) => Ok(MessageOutcome::Dropped(reason)),
-            Ok(Taken::Arrived(Arrived::Partial)) => Ok(MessageOutcome::Partial),
-            Ok(Taken::Arrived(Arrived::Request(request))) => self.serve(now, &request, reply),
-            Ok(Taken::Last(packet)) => self.receive_last(now, &packet, reply),
+            Ok(Intake::Decided(Disposition::Dropped(reason))) => Ok(MessageOutcome::Dropped(
+                reason,
+            )),
+            Ok(Intake::Decided(Disposition::Partial)) => Ok(MessageOutcome::Partial),
+            Ok(Intake::Decided(Disposition::Request(request))) => self.serve(now, &request, reply),
+            Ok(Intake::Last(packet)) => self.receive_last(now, &packet, reply),
             Err(refusal) => Err(self.memory_of(refusal)),
         }
     }
@@ -291,9 +293,9 @@ impl<P: Platform> Responder<P> {
     {
         let mut room = Body::new();
         match self.end.take_last(now, packet, &mut room) {
-            Arrived::Dropped(reason) => Ok(MessageOutcome::Dropped(reason)),
-            Arrived::Partial => Ok(MessageOutcome::Partial),
-            Arrived::Request(request) => self.serve(now, &request, reply),
+            Disposition::Dropped(reason) => Ok(MessageOutcome::Dropped(reason)),
+            Disposition::Partial => Ok(MessageOutcome::Partial),
+            Disposition::Request(request) => self.serve(now, &request, reply),
         }
     }
 
@@ -332,7 +334,7 @@ impl<P: Platform> Responder<P> {
             (outcome_on (way_back self.old.end.own (message_at now request.now)) changed)) }
         ensures err { OnErr result (IsNotServed P.performed self.old now request.now self.new P.STEADY) }
     {
-        if self.end.standing(now, request, reply) != Standing::Fresh {
+        if self.end.standing(now, request, reply) != RequestClass::Fresh {
             self.end.finish(now, request);
             return Ok(None);
         }

@@ -4,8 +4,8 @@ use Rattle.pldm_wire.specs.Commands.{sets}
 use Rattle.pldm_wire.specs.HandingOn.{hands_on}
 use Rattle.pldm_wire.specs.Kinds.{TypeAndCommand}
 use Rattle.pldm_wire.specs.declared.assigned.TheConstants.{INSTANCE_IDS}
-use Rattle.pldm_wire.specs.declared.busy_time.BusyTime.{BusyTime}
-use Rattle.pldm_wire.specs.declared.busy_time.BusyTime.TheVariants.{All, Sets}
+use Rattle.pldm_wire.specs.declared.restart_policy.RestartPolicy.{RestartPolicy}
+use Rattle.pldm_wire.specs.declared.restart_policy.RestartPolicy.TheVariants.{All, Sets}
 use Rattle.pldm_wire.specs.declared.command.Command.{Command}
 
 -- one instance ID of a source at least, and all of them at most
@@ -19,6 +19,6 @@ reads_set (Err code) = false
 
 -- whether a request is refused in the busy time: its type and command, and what was read of them, or the code that
 -- refuses it anyway
-abbrev pub refuses : BusyTime → TypeAndCommand → Result Command ℕ → Bool
+abbrev pub refuses : RestartPolicy → TypeAndCommand → Result Command ℕ → Bool
 refuses All kind read = true
 refuses (Sets handed) kind read = hands_on handed kind || reads_set read

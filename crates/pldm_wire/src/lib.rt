@@ -7,7 +7,6 @@ mod answer_reading;
 mod answer_writing;
 mod assigned;
 mod base;
-mod busy_time;
 mod code;
 mod command;
 mod command_reading;
@@ -15,18 +14,19 @@ mod command_writing;
 mod crc;
 mod effecter_values;
 mod effecters;
-mod handed_on;
 mod header;
 mod kind;
 pub mod laws;
 mod limits;
 mod number;
+mod pass_through;
 mod places;
 mod pushes;
 mod record_part;
 mod repository;
 mod request;
 mod response;
+mod restart_policy;
 mod sensors;
 mod size;
 mod state_fields;
@@ -46,14 +46,12 @@ pub use assigned::{
     INSTANCE_IDS, MESSAGE_TYPE, PLATFORM, REQUEST_HEADER, RESPONSE_HEADER,
     SET_NUMERIC_EFFECTER_VALUE, SET_STATE_EFFECTER_STATES, SET_TID, START_AND_END, SUCCESS,
 };
-pub use busy_time::BusyTime;
 pub use code::Code;
 pub use command::Command;
 pub use command_reading::read_command;
 pub use command_writing::{put_command, write_command};
 pub use crc::crc8;
 pub use effecter_values::EffecterValues;
-pub use handed_on::HandedOn;
 pub use kind::Kind;
 pub use limits::{
     ALL_FIELDS_FORM, COMMANDS_BYTES, GET_FIRST_PART, GET_NEXT_PART, MAX_PART_BYTES,
@@ -61,9 +59,11 @@ pub use limits::{
     MIN_VERSION_BYTES, TIME_BYTES, TYPES_BYTES, VERSION_BYTES,
 };
 pub use number::Number;
+pub use pass_through::PassThrough;
 pub use record_part::RecordPart;
 pub use request::{RequestRef, read_request};
 pub use response::{ResponseRef, read_response};
+pub use restart_policy::RestartPolicy;
 pub use size::Size;
 pub use state_fields::{EffecterStateField, SensorStateField, SetStateField, StateFields};
 pub use transfer_flag::TransferFlag;

@@ -4,5 +4,5 @@
 mod example_device;
 mod hoard;
 
+pub use example_device::{description, input};
 pub use hoard::Hoard;
-pub use test_support::{description, input};

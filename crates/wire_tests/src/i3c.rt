@@ -1,7 +1,7 @@
 //! Frames on I3C, written by hand from the text of the standard.
 
 use crate::expect::expect_eq;
-use mctp_i2c::i3c::{Direction, FrameBytes, FrameFault, frame, read};
+use mctp_i2c::i3c::{Direction, FrameBytes, I3cFault, frame, read};
 use mctp_i2c::{DynamicAddress, LengthFault};
 use std::process::Abort;
 
@@ -19,9 +19,9 @@ fn dynamic_addresses(rt: HostRuntime) {
 }
 
 /// Each fault with its number and its name.
-const FAULTS: &[(FrameFault, u8, &str)] = &[
-    (FrameFault::Short, 1, "Short"),
-    (FrameFault::WrongPec, 2, "WrongPec"),
+const FAULTS: &[(I3cFault, u8, &str)] = &[
+    (I3cFault::Short, 1, "Short"),
+    (I3cFault::WrongPec, 2, "WrongPec"),
 ];
 
 #[test]
@@ -51,7 +51,7 @@ fn is_read(
     rt: &impl Abort,
     (target, direction): Transfer,
     bytes: &[u8],
-    wanted: Result<&[u8], FrameFault>,
+    wanted: Result<&[u8], I3cFault>,
 ) {
     let read = read(address(rt, target), direction, bytes);
     expect_eq(rt, read, wanted, bytes);
@@ -109,7 +109,7 @@ fn longer_frame_is_read(rt: HostRuntime) {
 #[test]
 fn bytes_that_are_too_few(rt: HostRuntime) {
     for length in 0..5 {
-        is_read(&rt, WRITE, &FRAME[..length], Err(FrameFault::Short));
+        is_read(&rt, WRITE, &FRAME[..length], Err(I3cFault::Short));
     }
     let header = [0x01, 0x09, 0x08, 0xC8, 0x5E];
     is_read(&rt, WRITE, &header, Ok(&header[..4]));
@@ -117,7 +117,7 @@ fn bytes_that_are_too_few(rt: HostRuntime) {
 
 #[test]
 fn frame_of_another_transfer(rt: HostRuntime) {
-    let wrong = Err(FrameFault::WrongPec);
+    let wrong = Err(I3cFault::WrongPec);
     for target in 0..0x80 {
         if target != 0x30 {
             is_read(&rt, (target, Direction::Write), &FRAME, wrong);
@@ -139,6 +139,6 @@ fn flipped(bit: usize) -> [u8; 9] {
 #[test]
 fn each_bit_that_changes_is_seen(rt: HostRuntime) {
     for bit in 0..8 * FRAME.len() {
-        is_read(&rt, WRITE, &flipped(bit), Err(FrameFault::WrongPec));
+        is_read(&rt, WRITE, &flipped(bit), Err(I3cFault::WrongPec));
     }
 }

@@ -1,7 +1,7 @@
 //! Frames on SMBus, written by hand from the table of the standard.
 
 use crate::expect::expect_eq;
-use mctp_i2c::smbus::{FrameBytes, FrameFault, frame, read};
+use mctp_i2c::smbus::{FrameBytes, SmbusFault, frame, read};
 use mctp_i2c::{LengthFault, SmbusAddress};
 use std::process::Abort;
 
@@ -34,13 +34,13 @@ fn addresses_of_devices(rt: HostRuntime) {
 }
 
 /// Each fault with its number and its name.
-const FAULTS: &[(FrameFault, u8, &str)] = &[
-    (FrameFault::Short, 1, "Short"),
-    (FrameFault::NotOurs, 2, "NotOurs"),
-    (FrameFault::OtherCommand, 3, "OtherCommand"),
-    (FrameFault::WrongCount, 4, "WrongCount"),
-    (FrameFault::NotSource, 5, "NotSource"),
-    (FrameFault::WrongPec, 6, "WrongPec"),
+const FAULTS: &[(SmbusFault, u8, &str)] = &[
+    (SmbusFault::Short, 1, "Short"),
+    (SmbusFault::NotOurs, 2, "NotOurs"),
+    (SmbusFault::OtherCommand, 3, "OtherCommand"),
+    (SmbusFault::WrongCount, 4, "WrongCount"),
+    (SmbusFault::NotSource, 5, "NotSource"),
+    (SmbusFault::WrongPec, 6, "WrongPec"),
 ];
 
 /// Each fault of a length with its number and its name.
@@ -67,7 +67,7 @@ fn address(rt: &impl Abort, number: u8) -> SmbusAddress {
 }
 
 /// What bytes are read as: the number of the source's address and the packet, or a fault.
-type Reading<'a> = Result<(u8, &'a [u8]), FrameFault>;
+type Reading<'a> = Result<(u8, &'a [u8]), SmbusFault>;
 
 /// What these bytes are read as at this address.
 fn reading<'a>(rt: &impl Abort, own: u8, bytes: &'a [u8]) -> Reading<'a> {
@@ -144,9 +144,9 @@ fn packet_of_one_byte_is_read(rt: HostRuntime) {
 #[test]
 fn bytes_that_are_too_few(rt: HostRuntime) {
     for length in 0..6 {
-        is_read(&rt, 0x1D, &FRAME[..length], Err(FrameFault::Short));
+        is_read(&rt, 0x1D, &FRAME[..length], Err(SmbusFault::Short));
     }
-    is_read(&rt, 0x1D, &FRAME[..6], Err(FrameFault::WrongCount));
+    is_read(&rt, 0x1D, &FRAME[..6], Err(SmbusFault::WrongCount));
 }
 
 /// The frame with this byte at this place, and with this PEC.
@@ -160,14 +160,14 @@ fn changed(place: usize, byte: u8, pec: u8) -> [u8; 13] {
 }
 
 /// A place in the frame, the byte that stands there, the PEC, and the fault.
-const FAULTY: &[(usize, u8, u8, FrameFault)] = &[
-    (1, 0x0E, 0xD5, FrameFault::OtherCommand),
-    (2, 0x0A, 0x72, FrameFault::WrongCount),
-    (2, 0x08, 0xA2, FrameFault::WrongCount),
-    (3, 0x20, 0xB3, FrameFault::NotSource),
-    (3, 0x0F, 0x17, FrameFault::NotSource),
-    (3, 0xF1, 0x61, FrameFault::NotSource),
-    (12, 0xCC, 0xCC, FrameFault::WrongPec),
+const FAULTY: &[(usize, u8, u8, SmbusFault)] = &[
+    (1, 0x0E, 0xD5, SmbusFault::OtherCommand),
+    (2, 0x0A, 0x72, SmbusFault::WrongCount),
+    (2, 0x08, 0xA2, SmbusFault::WrongCount),
+    (3, 0x20, 0xB3, SmbusFault::NotSource),
+    (3, 0x0F, 0x17, SmbusFault::NotSource),
+    (3, 0xF1, 0x61, SmbusFault::NotSource),
+    (12, 0xCC, 0xCC, SmbusFault::WrongPec),
 ];
 
 #[test]
@@ -175,7 +175,7 @@ fn one_fault_with_a_right_pec(rt: HostRuntime) {
     for (place, byte, pec, fault) in FAULTY {
         is_read(&rt, 0x1D, &changed(*place, *byte, *pec), Err(*fault));
     }
-    is_read(&rt, 0x1E, &FRAME, Err(FrameFault::NotOurs));
+    is_read(&rt, 0x1E, &FRAME, Err(SmbusFault::NotOurs));
 }
 
 #[test]
@@ -187,12 +187,12 @@ fn first_and_last_source(rt: HostRuntime) {
 }
 
 /// A place in the frame, and the fault of a wrong byte there, in the order in which they are looked for.
-const TURNS: &[(usize, FrameFault)] = &[
-    (0, FrameFault::NotOurs),
-    (1, FrameFault::OtherCommand),
-    (2, FrameFault::WrongCount),
-    (3, FrameFault::NotSource),
-    (12, FrameFault::WrongPec),
+const TURNS: &[(usize, SmbusFault)] = &[
+    (0, SmbusFault::NotOurs),
+    (1, SmbusFault::OtherCommand),
+    (2, SmbusFault::WrongCount),
+    (3, SmbusFault::NotSource),
+    (12, SmbusFault::WrongPec),
 ];
 
 /// Puts the frame's byte at this place.
@@ -223,14 +223,14 @@ fn flipped(mut bytes: [u8; 13], bit: usize) -> [u8; 13] {
 }
 
 /// What a change of this bit of this byte is refused for.
-fn fault_of_change(place: usize, bit: usize) -> FrameFault {
+fn fault_of_change(place: usize, bit: usize) -> SmbusFault {
     match (place, bit) {
-        (0, _) => FrameFault::NotOurs,
-        (1, _) => FrameFault::OtherCommand,
-        (2, _) => FrameFault::WrongCount,
+        (0, _) => SmbusFault::NotOurs,
+        (1, _) => SmbusFault::OtherCommand,
+        (2, _) => SmbusFault::WrongCount,
         // bit 5 makes the source 0x00, which is reserved
-        (3, 0 | 5) => FrameFault::NotSource,
-        _ => FrameFault::WrongPec,
+        (3, 0 | 5) => SmbusFault::NotSource,
+        _ => SmbusFault::WrongPec,
     }
 }
 

@@ -1,5 +1,5 @@
 -- A packet that the header's checks drop is handed on, or is no request to the endpoint.
-use Rattle.mctp_control.proofs.HandedOn.{headers, messages, no_ids, parts, shorts, versions}
+use Rattle.mctp_control.proofs.PassThrough.{headers, messages, no_ids, parts, shorts, versions}
 use Rattle.mctp_control.proofs.laws.drops_are_answered_as_received.Goals as goal
 
 pub returns-clause-header : goal.returns-clause-header

@@ -1,7 +1,7 @@
 -- Step by step, until there is none.
 use Rattle.std.proofs.Common.{List, [], ◌∷◌, ◌++◌, refl, sym, ap, subst, ◌∙◌, append_assoc, append-nil}
 use Rattle.std.specs.Prelude.{reverse}
-use Rattle.pldm_wire.specs.declared.busy_time.BusyTime.TheVariants.{All}
+use Rattle.pldm_wire.specs.declared.restart_policy.RestartPolicy.TheVariants.{All}
 use Rattle.pldm_responder.specs.Performing.{rules_of}
 use Rattle.mctp_schedule.specs.Entries.{entries, requests_after}
 use Rattle.mctp_schedule.specs.FirstArrivals.{order}

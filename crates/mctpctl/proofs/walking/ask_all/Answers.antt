@@ -1,7 +1,7 @@
 -- One command more was asked.
 use Rattle.std.proofs.Common.{◌≡◌, [], ◌∷◌, inl, inr, length, refl, rules, subst, arith}
 use Rattle.mctpctl.proofs.WalkedOn.{stopped_walking}
-use Rattle.mctpctl.specs.WalkedTexts.{StepsOn, standing}
+use Rattle.mctpctl.specs.WalkedTexts.{StepsOn, walk_view}
 use Rattle.mctpctl.proofs.walking.ask_all.Goals as goal
 
 pub loop-init : goal.loop-init
@@ -14,8 +14,8 @@ loop-init g c = record {
 
 pub loop-preserved : goal.loop-preserved
 loop-preserved g c =
-    let mid = standing g.C.Ticks.to_come g.R.Read.remaining g.W.Write.contents g.O.Write.contents c.loop.walk c.loop.conversation in
-    let b = standing g.C.Ticks.to_come g.R.Read.remaining g.W.Write.contents g.O.Write.contents c.ask_next.new.walk c.ask_next.new.conversation in
+    let mid = walk_view g.C.Ticks.to_come g.R.Read.remaining g.W.Write.contents g.O.Write.contents c.loop.walk c.loop.conversation in
+    let b = walk_view g.C.Ticks.to_come g.R.Read.remaining g.W.Write.contents g.O.Write.contents c.ask_next.new.walk c.ask_next.new.conversation in
     record {
       walked = record {
         before = mid ∷ c.loop.invariant.walked.before;
@@ -35,9 +35,9 @@ loop-preserved g c =
 pub returns-in-Err-clause-stopped : goal.returns-in-Err-clause-stopped
 returns-in-Err-clause-stopped g c =
     stopped_walking c.in-Err.fault c.loop.status
-    (standing g.C.Ticks.to_come g.R.Read.remaining g.W.Write.contents g.O.Write.contents c.args.walk.now c.args.conversation.now)
-    (standing g.C.Ticks.to_come g.R.Read.remaining g.W.Write.contents g.O.Write.contents c.loop.walk c.loop.conversation)
-    (standing g.C.Ticks.to_come g.R.Read.remaining g.W.Write.contents g.O.Write.contents c.ask_next.new.walk c.ask_next.new.conversation)
+    (walk_view g.C.Ticks.to_come g.R.Read.remaining g.W.Write.contents g.O.Write.contents c.args.walk.now c.args.conversation.now)
+    (walk_view g.C.Ticks.to_come g.R.Read.remaining g.W.Write.contents g.O.Write.contents c.loop.walk c.loop.conversation)
+    (walk_view g.C.Ticks.to_come g.R.Read.remaining g.W.Write.contents g.O.Write.contents c.ask_next.new.walk c.ask_next.new.conversation)
     c.loop.invariant.walked c.in-Err.ensures.stopped
 
 pub returns-clause-stopped : goal.returns-clause-stopped
@@ -45,7 +45,7 @@ returns-clause-stopped g c =
     let all : length c.loop.invariant.walked.before ≡ 18446744073709551615 = omega arith in
     inr (record {
       before = c.loop.invariant.walked.before;
-      last = (standing g.C.Ticks.to_come g.R.Read.remaining g.W.Write.contents g.O.Write.contents c.loop.walk c.loop.conversation);
+      last = (walk_view g.C.Ticks.to_come g.R.Read.remaining g.W.Write.contents g.O.Write.contents c.loop.walk c.loop.conversation);
       status = c.loop.status;
       walked = c.loop.invariant.walked.walked;
       reason = inr (refl, all);

@@ -5,4 +5,4 @@ use Rattle.mctpctl_table.proofs.described.first_names.Given as goal
 
 abbrev pub invariant-loop-place : goal.invariant-loop-place
 invariant-loop-place l =
-    map (λ name. name.items) l.names.items ≡ first_names l.thing l.place (map (λ pdr. pdr.items) l.records)
+    map (λ name. name.items) l.names.items ≡ first_names l.identifier l.place (map (λ pdr. pdr.items) l.records)

@@ -1,7 +1,7 @@
 -- A reading is one more call of the responder.
 use Rattle.std.proofs.Common.{rules, ◌≡◌, ◌∷◌, [], ap, subst, ◌++◌, ◌∙◌, w64, to_z, of_z}
 use Rattle.std.proofs.lemmas.Int.{to_z-of_z}
-use Rattle.pldm_wire.specs.declared.busy_time.BusyTime.TheVariants.{All}
+use Rattle.pldm_wire.specs.declared.restart_policy.RestartPolicy.TheVariants.{All}
 use Rattle.pldm_responder.specs.ResponderStates.{IsHeld}
 use Rattle.pldm_responder.specs.ResponderViews.{held_of}
 use Rattle.pldm_responder.specs.Steps.{sensed_held}

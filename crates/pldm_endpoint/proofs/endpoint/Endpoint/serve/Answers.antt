@@ -4,7 +4,7 @@ use Rattle.pldm_responder.specs.Arrivals.{Whole}
 use Rattle.pldm_responder.specs.Ends.{held_by}
 use Rattle.pldm_responder.specs.ResponderStates.{IsHeld}
 use Rattle.pldm_responder.specs.Looking.{end_finished, message_at}
-use Rattle.pldm_responder.specs.declared.arriving.Standing.TheVariants.{Fresh}
+use Rattle.pldm_responder.specs.declared.arriving.RequestClass.TheVariants.{Fresh}
 use Rattle.pldm_responder.specs.Steps.{performs}
 use Rattle.pldm_responder.proofs.KeptEntries.{not_performed, reply_has_bytes}
 use Rattle.pldm_endpoint.specs.TwoSteps.{EndpointView, held_in, stepped}

@@ -7,7 +7,7 @@ use Rattle.pldm_responder.specs.Looking.{end_finished, message_at}
 use Rattle.pldm_responder.specs.Performing.{rules_of}
 use Rattle.pldm_responder.specs.ResponderViews.{held_of}
 use Rattle.pldm_responder.specs.Steps.{arrival_held, performs}
-use Rattle.pldm_responder.specs.declared.arriving.Standing.TheVariants.{Fresh}
+use Rattle.pldm_responder.specs.declared.arriving.RequestClass.TheVariants.{Fresh}
 use Rattle.pldm_responder.proofs.KeptEntries.{all_answered, fresh_is_performed, not_performed, reply_has_bytes}
 use Rattle.pldm_responder.proofs.QuietRequests.{not_true, still_held}
 use Rattle.pldm_responder.proofs.ServedRequests.{served_where_performed}

@@ -1,3 +1,0 @@
-pub mod SerialRead
-pub mod ChangesSeen
-mod WorkedFrames

@@ -1,8 +1,0 @@
-use Rattle.std.proofs.Common.{ap}
-use Rattle.mctpctl_bindings.specs.Bindings.{with_fault}
-use Rattle.mctpctl_bindings.specs.declared.fault.FrameFault.TheVariants.{Serial}
-use Rattle.mctpctl_bindings.proofs.SerialRead.{frame_read}
-use Rattle.mctpctl_bindings.proofs.laws.frames_are_read.Goals as goal
-
-pub returns-clause-serial : goal.returns-clause-serial
-returns-clause-serial c = λ packet has_frame. ap (with_fault (λ fault. Serial fault)) (frame_read packet has_frame)
