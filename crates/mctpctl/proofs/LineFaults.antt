@@ -4,7 +4,7 @@ use Rattle.mctpctl.specs.AskedTexts.{IsOfPrinting}
 use Rattle.mctpctl.specs.WatchedTexts.{ReadsFirst, StopsOne, StopsReading}
 use Rattle.pldm_line.specs.Asked.{Shown}
 use Rattle.mctpctl_table.specs.Tables.{Cells}
-use Rattle.mctpctl_walk.specs.Walks.{Walking}
+use Rattle.pldm_discovery.specs.Walks.{Walking}
 use Rattle.pldm_line.specs.declared.ask_fault.AskFault.{AskFault}
 use Rattle.pldm_line.specs.declared.ask_fault.AskFault.TheVariants.{LineEnded, Read, Write, Clock, Memory, TooMany}
 

@@ -15,9 +15,9 @@ use Rattle.pldm_line.specs.declared.ask_fault.AskFault.TheVariants.{TooMany}
 use Rattle.mctpctl_decode.specs.RecordTexts.{record_lines}
 use Rattle.mctpctl_table.specs.Rows.{Described, described_of, rows_by}
 use Rattle.mctpctl_table.specs.Tables.{Cells, table_text}
-use Rattle.mctpctl_walk.specs.Steps.{after}
-use Rattle.mctpctl_walk.specs.Walks.{Walking, begun as begun_walk, next_command, reading_at}
-use Rattle.mctpctl_walk.specs.declared.discovered.Discovered.{Discovered}
+use Rattle.pldm_discovery.specs.Steps.{after}
+use Rattle.pldm_discovery.specs.Walks.{Walking, begun as begun_walk, next_command, reading_at}
+use Rattle.pldm_discovery.specs.declared.discovered.Discovered.{Discovered}
 use Rattle.pldm_wire.specs.declared.limits.TheConstants.{GET_NEXT_PART}
 use Rattle.pldm_wire.specs.declared.command.Command.{Command}
 use Rattle.pldm_wire.specs.declared.command.Command.TheVariants.{GetPdr}

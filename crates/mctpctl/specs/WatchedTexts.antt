@@ -8,9 +8,9 @@ use Rattle.pldm_line.specs.declared.asking_line.Ended.{Ended}
 use Rattle.mctpctl_table.specs.Rows.{rows_by}
 use Rattle.mctpctl_table.specs.Marks.{marked_text}
 use Rattle.mctpctl_table.specs.Tables.{Cells}
-use Rattle.mctpctl_walk.specs.Subjects.{question}
-use Rattle.mctpctl_walk.specs.Walks.{Walking}
-use Rattle.mctpctl_walk.specs.declared.discovered.Discovered.{Discovered}
+use Rattle.pldm_discovery.specs.Subjects.{question}
+use Rattle.pldm_discovery.specs.Walks.{Walking}
+use Rattle.pldm_discovery.specs.declared.discovered.Discovered.{Discovered}
 use Rattle.mctpctl.specs.AskedTexts.{status_of_answer}
 use Rattle.mctpctl.specs.WalkedTexts.{described_at}
 use Rattle.mctpctl.specs.declared.talk.TheConstants.{DONE}

@@ -20,7 +20,7 @@ use mctpctl_decode::push_record;
 use mctpctl_input::Port;
 use mctpctl_table::{Described, Table};
 use mctpctl_texts::write_text;
-use mctpctl_walk::Walk;
+use pldm_discovery::Walk;
 use pldm_line::{AskFault, Ticks, ask_control};
 use pldm_wire::{Command, GET_NEXT_PART};
 use std::alloc::Global;

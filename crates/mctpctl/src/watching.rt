@@ -19,7 +19,7 @@ use mctpctl_command_line::{TRY_HELP, WatchOptions};
 use mctpctl_input::Port;
 use mctpctl_table::{Described, Table};
 use mctpctl_texts::{write_number, write_text};
-use mctpctl_walk::Walk;
+use pldm_discovery::Walk;
 use pldm_line::{AskFault, AskingLine, Ticks, ask, listen};
 use std::alloc::Global;
 use std::fs::{self, File};

@@ -32,7 +32,8 @@ pub(crate) fn name_cell(
     place: usize,
     records: &[Vec<u8>],
 ) -> Result<Vec<u8>, Memory>
-    ensures { IfOk result (λ cell. cell.items ≡ name_cell identifier.now place (map (λ bytes. bytes.items) records.now)) }
+    ensures { IfOk result (λ cell. cell.items ≡ name_cell identifier.now place
+        (map (λ bytes. bytes.items) records.now)) }
 {
     for bytes in records {
         if let Some(cell) = name_in_record(alloc, identifier, place, bytes)? {

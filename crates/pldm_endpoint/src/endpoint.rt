@@ -530,9 +530,9 @@ impl Endpoint {
     }
 
     /// Restarts at the moment `now`, which must not be before [`Endpoint::last_moment`]. The kept answers, the messages
-    /// that have begun and the pending commands are forgotten. The device may have performed those commands or
-    /// not, so for the keeping time from then on nothing is performed, or nothing that [`ResponderSettings::busy`] names, as after
-    /// [`pldm_responder::Responder::restart`]; an answer to one of them is refused as `NotPending` from then on.
+    /// that have begun and the pending commands are forgotten. The device may have performed those commands or not, so
+    /// for the keeping time from then on nothing is performed, or nothing that [`ResponderSettings::busy`] names, as
+    /// after [`pldm_responder::Responder::restart`]; an answer to one of them is refused as `NotPending` from then on.
     pub fn restart(&mut self, now: Moment)
         requires { (held_in self.old).last ≤ now }
         ensures held { IsHeld (held_in self.new) (restarted_held (held_in self.old) now) }
@@ -544,8 +544,8 @@ impl Endpoint {
 
     /// Gives it the endpoint ID `eid` at the moment `now`, which must not be before [`Endpoint::last_moment`] (DSP0236,
     /// "Set Endpoint ID"). Where it had one before, that is a restart ([`Endpoint::restart`]): what was kept, begun and
-    /// pending is forgotten, and for the keeping time from then on it is busy. Where it had none, nothing was performed,
-    /// and it serves as before.
+    /// pending is forgotten, and for the keeping time from then on it is busy. Where it had none, nothing was
+    /// performed, and it serves as before.
     pub fn assign(&mut self, now: Moment, eid: Eid)
         requires { (held_in self.old).last ≤ now }
         ensures held { IsHeld (held_in self.new) (assigned_held (held_in self.old) now eid) }

@@ -219,8 +219,8 @@ pub fn listen<C: Ticks, R: Read, W: Write>(
 ///
 /// `LineEnded` where [`END_READS`] reads of 0 bytes in a row took less than [`END_MS`]. `Read` and `Write` where the
 /// port has failed; what a failed writer took is not known. At all others, the frames of the turns before went out.
-/// `Clock` where the clock gave no reading, `Memory` where a packet or the opening of the request wanted some, `TooMany`
-/// after `u64::MAX` reads. At all but `Write` what was written has been flushed.
+/// `Clock` where the clock gave no reading, `Memory` where a packet or the opening of the request wanted some,
+/// `TooMany` after `u64::MAX` reads. At all but `Write` what was written has been flushed.
 ///
 /// [`END_READS`]: crate::END_READS
 /// [`END_MS`]: crate::END_MS

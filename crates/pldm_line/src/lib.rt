@@ -1,6 +1,6 @@
-//! The two ends of a serial line (DSP0253) between a reader and a writer. One serves a device: frames come in, and those
-//! of the answers go out. The other asks: commands go out as requests, and each is followed until it was answered or
-//! given up; control queries go out beside them. There is no waiting: each read that gives nothing is a tick.
+//! The two ends of a serial line (DSP0253) between a reader and a writer. One serves a device: frames come in, and
+//! those of the answers go out. The other asks: commands go out as requests, and each is followed until it was answered
+//! or given up; control queries go out beside them. There is no waiting: each read that gives nothing is a tick.
 #![tactic(auto)]
 
 mod answers;

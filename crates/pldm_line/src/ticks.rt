@@ -12,7 +12,8 @@ use std::io;
 use std::io::{Error, ErrorKind};
 use std::time::{Clock, Instant};
 
-/// The moment of a reading of the clock: the later of the last one and the reading, which is cut at the greatest moment.
+/// The moment of a reading of the clock: the later of the last one and the reading, which is cut at the greatest
+/// moment.
 pub(crate) fn moment_after(last: Moment, reading: u64) -> Moment
     ensures value { result ≡ moment_after last reading }
     ensures range { IsMoment result }

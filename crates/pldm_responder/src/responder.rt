@@ -223,8 +223,8 @@ impl<P: Platform> Responder<P> {
     /// the same bytes, and came less than the keeping time before, and since then fewer other instance IDs of its
     /// source had such a request than the window counts: then it gets that request's answer. Else it is performed, and
     /// its answer is kept, a refusal too (DSP0240, "PLDM message fields", the instance ID). While the responder is
-    /// busy, each request that [`ResponderSettings::busy`] names is answered with ERROR_NOT_READY, and neither performed nor
-    /// kept. The answer goes back to the source, with TO 0 and the tag of the packets that just came.
+    /// busy, each request that [`ResponderSettings::busy`] names is answered with ERROR_NOT_READY, and is neither
+    /// performed nor kept. The answer goes back to the source, with TO 0 and the tag of the packets that just came.
     ///
     /// # Errors
     ///

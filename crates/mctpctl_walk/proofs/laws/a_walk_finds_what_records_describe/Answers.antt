@@ -1,6 +1,0 @@
--- What is found is what the records describe.
-use Rattle.mctpctl_walk.proofs.WalksEnd.{walks_find}
-use Rattle.mctpctl_walk.proofs.laws.a_walk_finds_what_records_describe.Goals as goal
-
-pub returns : goal.returns
-returns c = walks_find

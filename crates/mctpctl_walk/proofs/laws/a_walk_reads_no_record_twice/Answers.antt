@@ -1,6 +1,0 @@
--- No record is read twice.
-use Rattle.mctpctl_walk.proofs.WalksEnd.{walks_read_once}
-use Rattle.mctpctl_walk.proofs.laws.a_walk_reads_no_record_twice.Goals as goal
-
-pub returns : goal.returns
-returns c = walks_read_once

@@ -1,7 +1,0 @@
--- The handle is that among the records that are left.
-use Rattle.std.proofs.Common.{◌≡◌, drop}
-use Rattle.mctpctl_walk.specs.Termini.{asked_handle}
-use Rattle.mctpctl_walk.proofs.terminus.asked_handle.Given as goal
-
-abbrev pub invariant-loop-pdr : goal.invariant-loop-pdr
-invariant-loop-pdr l = asked_handle l.own (drop l.pdr-index l.records) ≡ asked_handle l.own l.records
