@@ -13,5 +13,3 @@ mod flushes;
 mod limits;
 #[cfg(test)]
 mod ports;
-#[cfg(test)]
-mod refused_growths;
