@@ -2,7 +2,7 @@
 use Rattle.std.proofs.Common.{◌≡◌, refl}
 use Rattle.mctpctl.specs.declared.settings.TheConstants.{EVERY_MS, KEEP_MS, MAX_COUNT, MAX_EVERY, TIMEOUT_MS, TRIES}
 use Rattle.mctpctl.specs.declared.state.TheConstants.{LINE_END, MAX_MOMENT}
-use Rattle.mctpctl.specs.declared.talk.TheConstants.{DONE, FAILED, REFUSED, USAGE}
+use Rattle.mctpctl.specs.declared.statuses.TheConstants.{DONE, FAILED, REFUSED, USAGE}
 
 usual_keeping_time : KEEP_MS ≡ 6000
 usual_keeping_time = refl

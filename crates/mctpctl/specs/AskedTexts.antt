@@ -15,7 +15,7 @@ use Rattle.pldm_wire.specs.declared.assigned.TheConstants.{SUCCESS}
 use Rattle.pldm_wire.specs.declared.command.Command.{Command}
 use Rattle.mctpctl.specs.declared.commands.AskedCommand.{AskedCommand}
 use Rattle.mctp_packet.specs.declared.reason.Reason.{Reason}
-use Rattle.mctpctl.specs.declared.talk.TheConstants.{DONE, FAILED, REFUSED}
+use Rattle.mctpctl.specs.declared.statuses.TheConstants.{DONE, FAILED, REFUSED}
 
 -- as `show --decode` writes it, or its bytes
 abbrev pub message_text : Bool → List ℕ → List ℕ

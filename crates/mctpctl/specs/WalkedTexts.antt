@@ -26,7 +26,7 @@ use Rattle.mctpctl.specs.AskedTexts.{Prints, Reports, status_of_answer}
 use Rattle.mctpctl.specs.Conversations.{printed_in, shown_in}
 use Rattle.mctpctl.specs.declared.conversation.Conversation.{Conversation}
 use Rattle.mctpctl.specs.declared.settings.Settings.{Settings}
-use Rattle.mctpctl.specs.declared.talk.TheConstants.{DONE, FAILED, REFUSED}
+use Rattle.mctpctl.specs.declared.statuses.TheConstants.{DONE, FAILED, REFUSED}
 
 -- ---- the endpoint: control messages, on tag 0, which no request has yet
 abbrev pub query_of : Settings → ℕ → ControlCommand → ControlQuery

@@ -13,7 +13,7 @@ use Rattle.pldm_discovery.specs.Walks.{Walking}
 use Rattle.pldm_discovery.specs.declared.discovered.Discovered.{Discovered}
 use Rattle.mctpctl.specs.AskedTexts.{status_of_answer}
 use Rattle.mctpctl.specs.WalkedTexts.{described_at}
-use Rattle.mctpctl.specs.declared.talk.TheConstants.{DONE}
+use Rattle.mctpctl.specs.declared.statuses.TheConstants.{DONE}
 
 -- the rows of what was found, by its record and by what answered for it
 abbrev pub rows_heard : Walking → Discovered → Option (List ℕ) → List Cells

@@ -7,11 +7,11 @@ ghost use Rattle.mctpctl.specs.Conversations.{IsGoingOn, printed_in, shown_in};
 ghost use Rattle.pldm_line.specs.Asked.{AskStops};
 ghost use Rattle.mctpctl_input.specs.Ports.{inner_of};
 
-use crate::commands::{AskedCommand, CommandsFault, read_commands};
+use crate::commands::AskedCommand;
 use crate::conversation::Conversation;
-use crate::talk::{DONE, Errand, FAILED, REFUSED, USAGE, do_errand, read_settings};
+use crate::statuses::{DONE, FAILED, REFUSED};
 use mctp_packet::Memory;
-use mctpctl_command_line::{AskOptions, NO_COMMAND, TRY_HELP};
+use mctpctl_command_line::AskOptions;
 use mctpctl_decode::push_decoded_line;
 use mctpctl_input::Port;
 use mctpctl_texts::{write_data, write_text};
@@ -19,58 +19,6 @@ use pldm_line::{AskFault, Ticks, ask};
 use pldm_wire::{Command, SUCCESS, read_response};
 use std::alloc::Global;
 use std::io::{Read, Write};
-
-/// Asks the device what the command line says, and returns the exit status. What fails is said on standard error.
-pub fn ask_device(rt: &HostRuntime, question: &AskOptions<'_>, words: &[&str]) -> u8
-    ensures { result ≤ FAILED }
-{
-    let settings = match read_settings(rt, &question.link) {
-        Ok(settings) => settings,
-        Err(status) => return status,
-    };
-    match read_commands(rt, question, words) {
-        Ok(commands) => do_errand(
-            rt,
-            &question.link,
-            &settings,
-            Errand::Ask(question, &commands),
-        ),
-        Err(fault) => commands_failed(rt, question, &fault),
-    }
-}
-
-/// Says why there are no commands, and returns the exit status.
-fn commands_failed(rt: &HostRuntime, question: &AskOptions<'_>, fault: &CommandsFault) -> u8
-    ensures { result ≤ FAILED }
-{
-    let file = question.file.unwrap_or("");
-    match fault {
-        CommandsFault::None => {
-            let _ = eprint!(rt; "{NO_COMMAND}{TRY_HELP}");
-            USAGE
-        }
-        CommandsFault::Word(kind) => {
-            let _ = eprint!(rt; "error: COMMAND: {}{TRY_HELP}", kind.name());
-            USAGE
-        }
-        CommandsFault::Line(number, kind) => {
-            let _ = eprintln!(rt; "mctpctl: {file}: line {number}: {}", kind.name());
-            USAGE
-        }
-        CommandsFault::File(error) => {
-            let _ = eprintln!(rt; "mctpctl: {file}: {error}");
-            FAILED
-        }
-        CommandsFault::TooLarge => {
-            let _ = eprintln!(rt; "mctpctl: {file}: input too large");
-            USAGE
-        }
-        CommandsFault::Memory => {
-            let _ = eprintln!(rt; "mctpctl: out of memory");
-            FAILED
-        }
-    }
-}
 
 /// Asks each command over a line, prints its answer, and returns the exit status.
 pub fn ask_each<C: Ticks, R: Read, W: Write, O: Write>(

@@ -10,7 +10,7 @@ ghost use Rattle.pldm_responder.specs.ResponderViews.{held_of};
 use crate::control_responder::{control_responder, eid_at_first};
 use crate::device_file::{device_text, read_served};
 use crate::faults::{engine_fault, print_fault};
-use crate::talk::{DONE, FAILED};
+use crate::statuses::{DONE, FAILED};
 use mctp_serial::FrameReader;
 use mctpctl_command_line::ServeOptions;
 use mctpctl_input::{EngineFault, Port};

@@ -12,6 +12,7 @@ use crate::commands::AskedCommand;
 use crate::conversation::Conversation;
 use crate::settings::{Periods, Settings, settings_of};
 use crate::state::{Earlier, StateFault, begin_state, end_state, settling_time};
+use crate::statuses::{FAILED, USAGE};
 use crate::walking::walk_device;
 use crate::watching::watch_device;
 use mctpctl_command_line::{AskOptions, LineOptions, TRY_HELP, WalkOptions, WatchOptions};
@@ -21,18 +22,6 @@ use std::alloc::Global;
 use std::fs::{File, OpenOptions};
 use std::io::{Read, Write};
 use std::{fs, io};
-
-/// The exit status where each command has an answer with the code SUCCESS.
-pub const DONE: u8 = 0;
-
-/// That where an answer has another code.
-pub const REFUSED: u8 = 1;
-
-/// That of a command line or a file of commands that is refused.
-pub const USAGE: u8 = 2;
-
-/// That where a command has no answer, or something failed.
-pub const FAILED: u8 = 3;
 
 /// What is asked of a device.
 #[derive(Clone, Copy)]

@@ -12,7 +12,7 @@ ghost use Rattle.mctpctl_input.specs.Ports.{inner_of};
 use crate::asking::{ask_command, print_message, print_text, status_of_answer};
 use crate::conversation::Conversation;
 use crate::settings::Settings;
-use crate::talk::{DONE, Errand, FAILED, REFUSED, do_errand, read_settings};
+use crate::statuses::{DONE, FAILED, REFUSED};
 use mctp_control::{Command as ControlCommand, Query, SUCCESS, read_response};
 use mctp_packet::{Memory, Tag};
 use mctpctl_command_line::WalkOptions;
@@ -26,16 +26,6 @@ use pldm_wire::{Command, GET_NEXT_PART};
 use std::alloc::Global;
 use std::fs;
 use std::io::{self, IsTerminal, Read, Write};
-
-/// Asks the device for all that it has, and returns the exit status. What fails is said on standard error.
-pub fn run_walk(rt: &HostRuntime, options: &WalkOptions<'_>) -> u8
-    ensures { result ≤ FAILED }
-{
-    match read_settings(rt, &options.link) {
-        Ok(settings) => do_errand(rt, &options.link, &settings, Errand::Walk(options)),
-        Err(status) => status,
-    }
-}
 
 /// Asks the device for all that it has over a line, prints its answers and the table, and returns the exit status.
 pub fn walk_device<C: Ticks, R: Read, W: Write, O: Write>(

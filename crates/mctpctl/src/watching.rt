@@ -11,11 +11,11 @@ ghost use Rattle.mctpctl_input.specs.Ports.{inner_of, BothWork};
 
 use crate::asking::{print_text, status_of_answer};
 use crate::conversation::Conversation;
-use crate::settings::{MAX_EVERY, Periods, periods_of};
-use crate::talk::{DONE, Errand, FAILED, USAGE, do_errand, read_settings};
+use crate::settings::{MAX_EVERY, Periods};
+use crate::statuses::{DONE, FAILED};
 use crate::walking::{ask_all, described_of};
 use mctp_packet::{Memory, Moment};
-use mctpctl_command_line::{TRY_HELP, WatchOptions};
+use mctpctl_command_line::WatchOptions;
 use mctpctl_input::Port;
 use mctpctl_table::{Described, Table};
 use mctpctl_texts::{write_number, write_text};
@@ -24,29 +24,6 @@ use pldm_line::{AskFault, AskingLine, Ticks, ask, listen};
 use std::alloc::Global;
 use std::fs::{self, File};
 use std::io::{self, Read, Write};
-
-/// Reads the sensors and effecters of the device, as often as the command line says, and returns the exit status. What
-/// fails is said on standard error.
-pub fn run_watch(rt: &HostRuntime, options: &WatchOptions<'_>) -> u8
-    ensures { result ≤ FAILED }
-{
-    let settings = match read_settings(rt, &options.link) {
-        Ok(settings) => settings,
-        Err(status) => return status,
-    };
-    match periods_of(options) {
-        Ok(periods) => do_errand(
-            rt,
-            &options.link,
-            &settings,
-            Errand::Watch(options, &periods),
-        ),
-        Err(option) => {
-            let _ = eprint!(rt; "error: invalid value for '{option}'{TRY_HELP}");
-            USAGE
-        }
-    }
-}
 
 /// Finds the sensors and effecters of the device over a line, reads them in each period, prints their table, and
 /// returns the exit status.

@@ -11,7 +11,7 @@ use Rattle.pldm_wire.specs.Commands.{kind_of}
 use Rattle.pldm_wire.specs.HandingOn.{hands_on}
 use Rattle.pldm_wire.specs.Headers.{id_at, kind_at}
 use Rattle.pldm_wire.specs.Requests.{Request, request}
-use Rattle.pldm_wire.specs.contracts.handed_on.PassThrough as handed_type
+use Rattle.pldm_wire.specs.contracts.pass_through.PassThrough as handed_type
 use Rattle.pldm_wire.specs.declared.answer.Answer.{Answer}
 use Rattle.pldm_wire.specs.declared.answer.Answer.TheVariants.{Refused}
 use Rattle.pldm_wire.specs.declared.assigned.TheConstants.{ERROR_NOT_READY, INSTANCE_IDS, REQUEST_HEADER}

@@ -8,7 +8,7 @@ use Rattle.mctp_packet.specs.declared.TheConstants.{NULL_EID}
 use Rattle.mctp_assembly.specs.Keys.{IsKey, key_cmp, coded_key}
 use Rattle.mctp_assembly.specs.Opened.{Opened, coded_opened}
 use Rattle.mctp_assembly.specs.declared.key.Key.{Key}
-use Rattle.pldm_wire.specs.contracts.busy_time.RestartPolicy as busy_type
+use Rattle.pldm_wire.specs.contracts.restart_policy.RestartPolicy as busy_type
 use Rattle.pldm_wire.specs.declared.restart_policy.RestartPolicy.{RestartPolicy}
 use Rattle.pldm_responder.specs.ResponderStates.{Entry, ResponderState}
 use Rattle.pldm_responder.specs.Slots.{Rows, coded_rows, kept_in, row_of, source_count}

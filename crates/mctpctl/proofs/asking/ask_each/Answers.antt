@@ -3,7 +3,7 @@ use Rattle.std.proofs.Common.{refl, rules}
 use Rattle.mctpctl.proofs.CommandsAsked.{all_asked, one_more}
 use Rattle.mctpctl.specs.AskedTexts.{asked_so}
 use Rattle.mctpctl.specs.Conversations.{printed_in, shown_in}
-use Rattle.mctpctl.specs.declared.talk.TheConstants.{DONE}
+use Rattle.mctpctl.specs.declared.statuses.TheConstants.{DONE}
 use Rattle.mctpctl.proofs.asking.ask_each.Goals as goal
 
 pub loop-command-init : goal.loop-command-init

@@ -2,7 +2,7 @@
 use Rattle.std.proofs.Common.{◌≤◌, take}
 use Rattle.mctpctl.specs.AskedTexts.{AsksEach, asked_so}
 use Rattle.mctpctl.specs.Conversations.{IsGoingOn, printed_in, shown_in}
-use Rattle.mctpctl.specs.declared.talk.TheConstants.{DONE, FAILED}
+use Rattle.mctpctl.specs.declared.statuses.TheConstants.{DONE, FAILED}
 use Rattle.mctpctl.proofs.asking.ask_each.Given as goal
 
 abbrev pub invariant-loop-command : goal.invariant-loop-command

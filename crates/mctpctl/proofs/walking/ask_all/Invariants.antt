@@ -3,7 +3,7 @@ use Rattle.std.proofs.Common.{◌≡◌, ◌≤◌, length}
 use Rattle.mctpctl.proofs.WalkedOn.{WalkedSo}
 use Rattle.mctpctl.specs.Conversations.{IsGoingOn}
 use Rattle.mctpctl.specs.WalkedTexts.{walk_view}
-use Rattle.mctpctl.specs.declared.talk.TheConstants.{FAILED}
+use Rattle.mctpctl.specs.declared.statuses.TheConstants.{FAILED}
 use Rattle.mctpctl.proofs.walking.ask_all.Given as goal
 
 abbrev pub invariant-loop : goal.invariant-loop

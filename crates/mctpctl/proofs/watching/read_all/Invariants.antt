@@ -1,7 +1,7 @@
 -- What was found at the first places was read.
 use Rattle.std.proofs.Common.{◌≡◌, ◌≤◌, false, length}
 use Rattle.mctpctl.specs.WatchedTexts.{ReadsFirst}
-use Rattle.mctpctl.specs.declared.talk.TheConstants.{FAILED}
+use Rattle.mctpctl.specs.declared.statuses.TheConstants.{FAILED}
 use Rattle.pldm_line.specs.Asked.{shown}
 use Rattle.mctpctl.proofs.watching.read_all.Given as goal
 
