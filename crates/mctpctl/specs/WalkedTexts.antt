@@ -117,7 +117,7 @@ abbrev pub StepsOn : Option ℕ → WalkView → WalkView → Type 0
 StepsOn None a b = (next_command a.walking ≡ None) × (b ≡ a)
 StepsOn (Some status) a b = Visits status a b
 
--- command after command was asked; these were the standings before each, the newest first, and this is the greatest of
+-- command after command was asked; so it stood before each, the newest first, and this is the greatest of
 -- the exit statuses
 abbrev pub Walked : ℕ → WalkView → List WalkView → WalkView → Type 0
 Walked status a [] b = (b ≡ a) × (status ≡ DONE)
