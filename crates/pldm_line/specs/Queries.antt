@@ -3,7 +3,7 @@
 -- back over the turns since the frame went out first, the newest first.
 use Rattle.std.specs.Io.KnownBytes.{Appends, Consumes, Keeps}
 use Rattle.std.specs.Option.{option_or}
-use Rattle.std.specs.Prelude.{◌≡◌, ℕ, Bool, true, false, List, [], ◌∷◌, ◌++◌, Option, None, Some, if◌then◌else◌}
+use Rattle.std.specs.Prelude.{◌≡◌, ℕ, Bool, true, false, List, [], ◌∷◌, ◌++◌, Option, None, if◌then◌else◌}
 use Rattle.mctp_control.specs.Queries.{ControlQuery, answer_in, query_packet}
 use Rattle.pldm_line.specs.Asked.{Shown, StopsFor}
 use Rattle.pldm_line.specs.QueryTries.{is_again, is_over, tried_again, tries_from}
