@@ -112,10 +112,15 @@ fn add_command(
     ensures fault { IfErr result (λ fault. IsOfLines (with_line number commands.old.items line.now) fault) }
 {
     match command_in(line) {
-        Ok(Some(command)) => commands.push(AskedCommand {
-            line: number,
-            command,
-        })?,
+        Ok(Some(command)) => {
+            let asked = AskedCommand {
+                line: number,
+                command,
+            };
+            if commands.push(asked).is_err() {
+                return Err(CommandsFault::Memory);
+            }
+        }
         Ok(None) => {}
         Err(refusal) => return Err(CommandsFault::Line(number, refusal.kind)),
     }

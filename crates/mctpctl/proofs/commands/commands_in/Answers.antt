@@ -1,12 +1,15 @@
 -- Line by line, the commands are those of the lines so far.
-use Rattle.std.proofs.Common.{◌+◌, ap, ◌∙◌, arith}
+use Rattle.std.proofs.Common.{◌+◌, ap, ◌∙◌, sym, arith}
 use Rattle.line_words.specs.TextLines.{lines_of}
 use Rattle.mctpctl.specs.AskedCommands.{commands_from, then}
 use Rattle.mctpctl.proofs.CommandsRead.{at_first}
 use Rattle.mctpctl.proofs.commands.commands_in.Goals as goal
 
 pub loop-line-init : goal.loop-line-init
-loop-line-init c = record { read = at_first c.args.text.now; size = omega arith }
+loop-line-init c = record {
+  read = at_first c.args.text.now ∙ ap (λ commands. commands_from 1 commands (lines_of c.args.text.now)) (sym c.new-commands.ensures);
+  size = omega arith;
+}
 
 pub loop-line-preserved : goal.loop-line-preserved
 loop-line-preserved c =
