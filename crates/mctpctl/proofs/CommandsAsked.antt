@@ -1,9 +1,8 @@
 -- Commands that were asked, and one more.
 use Rattle.std.proofs.Common.{◌≡◌, ◌≤◌, ◌<◌, ℕ, ◌+◌, Bool, List, [], ◌∷◌, ◌++◌, get_or, length, take, refl, sym, subst, ap, ◌∙◌}
 use Rattle.std.proofs.lemmas.List.{take_all, take_more}
-use Rattle.std.specs.List.{FoldsTo}
 use Rattle.std.specs.Prelude.{max}
-use Rattle.mctpctl.specs.AskedTexts.{AskedSo, AsksCommand, AsksEach, AsksOne}
+use Rattle.mctpctl.specs.AskedTexts.{AskedSo, AsksCommand, AsksEach}
 use Rattle.mctpctl.specs.declared.commands.AskedCommand.{AskedCommand}
 
 folds_append : (hex : Bool) (a : AskedSo) (commands : List AskedCommand) (mid : AskedSo) (more : List AskedCommand) (b : AskedSo)

@@ -1,5 +1,6 @@
 pub mod CommandsAsked
 pub mod CommandsRead
+pub mod DescribedRows
 pub mod FirstRecords
 pub mod LineFaults
 pub mod Numbers

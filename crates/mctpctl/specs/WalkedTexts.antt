@@ -153,13 +153,14 @@ record_at w found = unwrap_or (slice_get w.records found.place) []
 abbrev pub described_at : Walking → Discovered → Option Described
 described_at w found = described_of (record_at w found) w.records
 
-abbrev pub rows_for : Walking → ℕ → Option Discovered → List Cells
-rows_for w place None = []
-rows_for w place (Some found) = rows_by (described_at w found) (reading_at w place)
+-- the rows of what was found, if something was: by its record, and by the message that came for it
+abbrev pub rows_heard : Walking → Option Discovered → Option (List ℕ) → List Cells
+rows_heard w None message = []
+rows_heard w (Some found) message = rows_by (described_at w found) message
 
--- the rows of what was found at a place: by its record, and by what answered for it
+-- the rows of what was found at a place: by what answered for it
 abbrev pub rows_at : Walking → ℕ → List Cells
-rows_at w place = rows_for w place (slice_get w.found place)
+rows_at w place = rows_heard w (slice_get w.found place) (reading_at w place)
 
 -- of what was found at the first places, so many
 abbrev pub first_rows : Walking → ℕ → List Cells

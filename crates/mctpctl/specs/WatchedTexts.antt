@@ -1,32 +1,33 @@
 -- What `watch` asks and prints.
 use Rattle.std.specs.Fmt.{decimal}
-use Rattle.std.specs.Prelude.{◌≡◌, ℕ, zero, suc, List, [], ◌∷◌, ◌++◌, codes, length, max, slice_get, Option, Some}
+use Rattle.std.specs.Prelude.{◌≡◌, ℕ, zero, suc, List, [], ◌∷◌, ◌++◌, codes, length, max, slice_get, Some}
 use Rattle.pldm_line.specs.Asked.{AskStops, Asks, Shown}
 use Rattle.pldm_line.specs.Ends.{answer_of}
 use Rattle.pldm_line.specs.declared.ask_fault.AskFault.{AskFault}
 use Rattle.pldm_line.specs.declared.asking_line.Ended.{Ended}
-use Rattle.mctpctl_table.specs.Rows.{rows_by}
 use Rattle.mctpctl_table.specs.Marks.{marked_text}
 use Rattle.mctpctl_table.specs.Tables.{Cells}
 use Rattle.pldm_discovery.specs.Subjects.{question}
+use Rattle.pldm_wire.specs.declared.command.Command.{Command}
 use Rattle.pldm_discovery.specs.Walks.{Walking}
 use Rattle.pldm_discovery.specs.declared.discovered.Discovered.{Discovered}
 use Rattle.mctpctl.specs.AskedTexts.{status_of_answer}
-use Rattle.mctpctl.specs.WalkedTexts.{described_at}
+use Rattle.mctpctl.specs.WalkedTexts.{rows_heard}
 use Rattle.mctpctl.specs.declared.statuses.TheConstants.{DONE}
 
--- the rows of what was found, by its record and by what answered for it
-abbrev pub rows_heard : Walking → Discovered → Option (List ℕ) → List Cells
-rows_heard w found message = rows_by (described_at w found) message
+-- what was found at a place is asked for by this command
+abbrev pub AsksFor : Walking → ℕ → Command → Type 0
+AsksFor w place command =
+    (found : Discovered) × (slice_get w.found place ≡ Some found) × (command ≡ question found.subject)
 
--- its question was asked, and the answer to that very request gave its rows and the exit status
+-- it was asked for, and the answer to that very request gave its rows and the exit status
 pub record ReadsOne (w : Walking) (place : ℕ) (s s1 : Shown) (rows rows1 : List Cells) (status : ℕ) : Type 0 where
-  pub found : Discovered
-  pub is_found : slice_get w.found place ≡ Some found
+  pub command : Command
+  pub asks_for : AsksFor w place command
   pub number : ℕ
   pub ended : Ended
-  pub asks : Asks (question found.subject) number ended s s1
-  pub rows_are : rows1 ≡ rows ++ rows_heard w found (answer_of s1.asking.held number)
+  pub asks : Asks command number ended s s1
+  pub rows_are : rows1 ≡ rows ++ rows_heard w (slice_get w.found place) (answer_of s1.asking.held number)
   pub status_is : status ≡ status_of_answer (answer_of s1.asking.held number)
 
 -- what was found at the first places, so many, was read one after the other; this is the greatest of the exit statuses
@@ -39,11 +40,11 @@ ReadsFirst w (suc place) s s1 rows status =
 abbrev pub ReadsAll : Walking → Shown → Shown → List Cells → ℕ → Type 0
 ReadsAll w s s1 rows status = ReadsFirst w (length w.found) s s1 rows status
 
--- the line stopped at the question of what was found at a place
+-- the line stopped where what was found at a place was asked for
 pub record StopsOne (w : Walking) (place : ℕ) (fault : AskFault) (s s1 : Shown) : Type 0 where
-  pub found : Discovered
-  pub is_found : slice_get w.found place ≡ Some found
-  pub stops : AskStops (question found.subject) fault s s1
+  pub command : Command
+  pub asks_for : AsksFor w place command
+  pub stops : AskStops command fault s s1
 
 -- what was found at the first places was read; then the line stopped at the next
 pub record StopsReading (w : Walking) (fault : AskFault) (s s1 : Shown) : Type 0 where

@@ -1,11 +1,12 @@
 //! `walk`: a device is asked for all that it has, its answers are printed, and a table of what it measures and sets.
 
-ghost use Rattle.std.specs.Prelude.{◌≡◌, ◌⊎◌, ◌<◌, ◌≤◌, ◌++◌, IfOk, IfErr, IfSome, OnOk, length, map};
+ghost use Rattle.std.specs.Prelude.{◌≡◌, ◌⊎◌, ◌<◌, ◌≤◌, ◌++◌, IfOk, IfErr, IfSome, OnOk, length, map, option_map};
 ghost use Rattle.std.specs.Io.KnownBytes.{Appends};
 ghost use Rattle.mctp_control.specs.declared.assigned.TheConstants.{INSTANCE_IDS};
 ghost use Rattle.mctpctl.specs.AskedTexts.{IsOfPrinting};
 ghost use Rattle.mctpctl.specs.Conversations.{IsGoingOn, printed_in, shown_in};
 ghost use Rattle.mctpctl.specs.WalkedTexts.{AsksEndpoint, StepsOn, StopsNext, StopsWalking, ReportsQuery, WalksDevice, WalksThrough, described_at, goes_on, query_of, record_text, status_of_query, rows_at, walk_view, walk_text, walked_rows};
+ghost use Rattle.mctpctl_table.specs.Rows.{rows_by};
 ghost use Rattle.pldm_line.specs.Queries.{StopsQuery};
 ghost use Rattle.mctpctl_input.specs.Ports.{inner_of};
 
@@ -345,8 +346,20 @@ fn add_found(
     requires place { place < length walk.now.found }
     ensures { OnOk result (table.new ≡ table.old ++ rows_at walk.now place) }
 {
-    match &described[place] {
-        Some(described) => table.add(described, walk.reading(place)),
+    add_heard(table, &described[place], walk.reading(place))
+}
+
+/// Adds the rows of what is described, if something is, by the message that came for it.
+pub fn add_heard(
+    table: &mut Table,
+    described: &Option<Described>,
+    message: Option<&[u8]>,
+) -> Result<(), Memory>
+    ensures { OnOk result (table.new
+        ≡ table.old ++ rows_by described.now (option_map (λ bytes. bytes.now) message.entry)) }
+{
+    match described {
+        Some(described) => table.add(described, message),
         None => Ok(()),
     }
 }

@@ -5,7 +5,7 @@ ghost use Rattle.std.specs.Io.KnownBytes.{Appends};
 ghost use Rattle.mctpctl.specs.AskedTexts.{IsOfPrinting};
 ghost use Rattle.mctpctl.specs.Conversations.{IsGoingOn};
 ghost use Rattle.mctpctl.specs.WalkedTexts.{described_at};
-ghost use Rattle.mctpctl.specs.WatchedTexts.{ReadsAll, ReadsOne, StopsOne, StopsReading, round_text};
+ghost use Rattle.mctpctl.specs.WatchedTexts.{AsksFor, ReadsAll, ReadsOne, StopsOne, StopsReading, round_text};
 ghost use Rattle.pldm_line.specs.Asked.{shown};
 ghost use Rattle.mctpctl_input.specs.Ports.{inner_of, BothWork};
 
@@ -13,7 +13,7 @@ use crate::asking::{print_text, status_of_answer};
 use crate::conversation::Conversation;
 use crate::settings::{MAX_EVERY, Periods};
 use crate::statuses::{DONE, FAILED};
-use crate::walking::{ask_all, described_of};
+use crate::walking::{add_heard, ask_all, described_of};
 use mctp_packet::{Memory, Moment};
 use mctpctl_command_line::WatchOptions;
 use mctpctl_input::Port;
@@ -21,6 +21,7 @@ use mctpctl_table::{Described, Table};
 use mctpctl_texts::{write_number, write_text};
 use pldm_discovery::Walk;
 use pldm_line::{AskFault, AskingLine, Ticks, ask, listen};
+use pldm_wire::Command;
 use std::alloc::Global;
 use std::fs::{self, File};
 use std::io::{self, Read, Write};
@@ -148,18 +149,25 @@ fn read_one<C: Ticks, R: Read, W: Write>(
         (shown C.to_come R.remaining W.contents line.new reader.new writer.new)) }
     ensures works { OnOk result (BothWork reader.new writer.new) }
 {
-    let found = walk.found()[place];
-    let asked = match ask(line, &found.subject.question(), reader, writer) {
+    let question = question_at(walk, place);
+    let asked = match ask(line, &question, reader, writer) {
         Ok(asked) => asked,
         Err(fault) => return Err(fault),
     };
     let answer = line.answer(asked.number);
-    if let Some(described) = &described[place]
-        && table.add(described, answer).is_err()
-    {
+    let Ok(()) = add_heard(table, &described[place], answer) else {
         return Err(AskFault::Memory);
-    }
+    };
     Ok(status_of_answer(answer))
+}
+
+/// The command that asks for what was found at a place.
+fn question_at(walk: &Walk, place: usize) -> Command
+    requires { place < length walk.now.found }
+    ensures { AsksFor walk.now place result }
+{
+    let found = walk.found()[place];
+    found.subject.question()
 }
 
 /// Listens until a period has passed since a moment, for a day at most.

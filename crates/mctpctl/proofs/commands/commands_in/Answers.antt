@@ -7,7 +7,7 @@ use Rattle.mctpctl.proofs.commands.commands_in.Goals as goal
 
 pub loop-line-init : goal.loop-line-init
 loop-line-init c = record {
-  read = at_first c.args.text.now ∙ ap (λ commands. commands_from 1 commands (lines_of c.args.text.now)) (sym c.new-commands.ensures);
+  read = at_first c.args.text.now ∙ ap (λ commands. commands_from 1 commands (lines_of c.args.text.now)) (sym c.new-commands.ensures.items);
   size = omega arith;
 }
 

@@ -1,5 +1,5 @@
 -- One command more was asked.
-use Rattle.std.proofs.Common.{◌≡◌, [], ◌∷◌, inl, inr, length, refl, rules, subst, arith}
+use Rattle.std.proofs.Common.{◌≡◌, [], ◌∷◌, inr, length, refl, rules, subst, arith}
 use Rattle.mctpctl.proofs.WalkedOn.{stopped_walking}
 use Rattle.mctpctl.specs.WalkedTexts.{StepsOn, walk_view}
 use Rattle.mctpctl.proofs.walking.ask_all.Goals as goal
