@@ -1,5 +1,6 @@
 -- The commands that the lines of a file say, or the last words of a command line.
-use Rattle.std.specs.Prelude.{◌≡◌, ℕ, ◌+◌, List, [], ◌∷◌, ◌++◌, Option, Some, None, Result, Ok, Err}
+use Rattle.std.specs.List.{flat_map}
+use Rattle.std.specs.Prelude.{◌≡◌, ℕ, ◌+◌, ◌-◌, List, [], ◌∷◌, ◌++◌, drop, length, min, Option, Some, None, Result, Ok, Err}
 use Rattle.line_words.specs.Lines.{said_words}
 use Rattle.line_words.specs.TextLines.{lines_of}
 use Rattle.pldm_wire.specs.declared.command.Command.{Command}
@@ -40,3 +41,11 @@ abbrev pub IsOfLines : Result (List AskedCommand) LineFault → CommandsFault �
 IsOfLines read (faults.Line number kind) = read ≡ Err (record { line = number; kind = kind })
 IsOfLines read faults.Memory = Unit {0}
 IsOfLines read fault = ⊥
+
+-- the last of these words, so many, or all where there are fewer
+abbrev pub last_words : {A : Type 0} → ℕ → List A → List A
+last_words count words = drop (length words - min count (length words)) words
+
+-- a space follows each
+abbrev pub spaced_words : List (List ℕ) → List ℕ
+spaced_words words = flat_map (λ word. word ++ 32 ∷ []) words

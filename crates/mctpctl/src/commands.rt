@@ -1,10 +1,11 @@
 //! The commands of `ask`, in the words of a schedule.
 
-ghost use Rattle.std.specs.Prelude.{◌≡◌, IfErr, IfOk, Ok, OnOk};
-ghost use Rattle.mctpctl.specs.AskedCommands.{IsOfLines, commands_of, with_line};
+ghost use Rattle.std.specs.Prelude.{◌≡◌, IfErr, IfOk, None, Ok, OnOk, map, option_map};
+ghost use Rattle.mctpctl.specs.AskedCommands.{IsOfLines, commands_of, last_words, spaced_words, with_line};
 
 use crate::device_file::device_text;
 use line_words::split_line;
+use mctp_packet::Memory;
 use mctpctl_command_line::AskOptions;
 use mctpctl_input::MAX_DESCRIPTION;
 use pldm_wire::Command;
@@ -55,7 +56,11 @@ pub fn read_commands(
     rt: &HostRuntime,
     question: &AskOptions<'_>,
     words: &[&str],
-) -> Result<Vec<AskedCommand>, CommandsFault> {
+) -> Result<Vec<AskedCommand>, CommandsFault>
+    ensures words { option_map (λ name. name.now) question.now.file ≡ None → IfOk result (λ commands.
+        commands_of (spaced_words (map (λ word. word.now) (last_words question.now.count words.now)))
+        ≡ Ok commands.items) }
+{
     let alloc = rt.alloc();
     let count = question.count.min(words.len());
     match question.file {
@@ -69,20 +74,40 @@ pub fn read_commands(
             }
             commands_in(alloc, &text)
         }
-        None if count > 0 => {
-            let mut line = Vec::new(alloc);
-            for word in &words[words.len() - count..] {
-                line.extend_from_slice(word.as_bytes())?;
-                line.push(b' ')?;
-            }
-            match commands_in(alloc, &line) {
-                Ok(commands) if commands.is_empty() => Err(CommandsFault::None), // a comment
-                Err(CommandsFault::Line(_, kind)) => Err(CommandsFault::Word(kind)),
-                read => read,
-            }
-        }
+        None if count > 0 => command_in_words(alloc, &words[words.len() - count..]),
         _ => Err(CommandsFault::None),
     }
+}
+
+/// The command that these words say.
+fn command_in_words(alloc: Global, words: &[&str]) -> Result<Vec<AskedCommand>, CommandsFault>
+    ensures { IfOk result (λ commands. commands_of (spaced_words (map (λ word. word.now) words.now))
+        ≡ Ok commands.items) }
+{
+    let Ok(line) = spaced_words(alloc, words) else {
+        return Err(CommandsFault::Memory);
+    };
+    let commands = match commands_in(alloc, &line) {
+        Ok(commands) => commands,
+        Err(CommandsFault::Line(_, kind)) => return Err(CommandsFault::Word(kind)),
+        Err(fault) => return Err(fault),
+    };
+    if commands.is_empty() {
+        return Err(CommandsFault::None); // a comment
+    }
+    Ok(commands)
+}
+
+/// These words as a line: a space follows each.
+fn spaced_words(alloc: Global, words: &[&str]) -> Result<Vec<u8>, Memory>
+    ensures { IfOk result (λ line. line.items ≡ spaced_words (map (λ word. word.now) words.now)) }
+{
+    let mut line = Vec::new(alloc);
+    for word in words {
+        line.extend_from_slice(word.as_bytes())?;
+        line.push(b' ')?;
+    }
+    Ok(line)
 }
 
 /// The commands on the lines of a text. Blank lines and comments are skipped but counted.
