@@ -1,9 +1,12 @@
 -- Commands that were asked, and one more.
-use Rattle.std.proofs.Common.{◌≡◌, ◌≤◌, ◌<◌, ℕ, ◌+◌, Bool, List, [], ◌∷◌, ◌++◌, get_or, length, take, refl, sym, subst, ap, ◌∙◌}
+use Rattle.std.proofs.Common.{◌≡◌, ◌≤◌, ◌<◌, ℕ, ◌+◌, Bool, List, [], ◌∷◌, ◌++◌, get_or, length, take, refl, sym, subst, ap, ◌∙◌, ◌⊎◌, inl, inr}
 use Rattle.std.proofs.lemmas.List.{take_all, take_more}
+use Rattle.std.proofs.lemmas.Option.{slice_get_read}
 use Rattle.std.specs.Prelude.{max}
-use Rattle.mctpctl.specs.AskedTexts.{AskedSo, AsksCommand, AsksEach}
+use Rattle.mctpctl.specs.AskedTexts.{AskedSo, AsksCommand, AsksEach, IsOfPrinting, StopsEach}
 use Rattle.mctpctl.specs.declared.commands.AskedCommand.{AskedCommand}
+use Rattle.pldm_line.specs.Asked.{AskStops, Shown}
+use Rattle.pldm_line.specs.declared.ask_fault.AskFault.{AskFault}
 
 folds_append : (hex : Bool) (a : AskedSo) (commands : List AskedCommand) (mid : AskedSo) (more : List AskedCommand) (b : AskedSo)
     → AsksEach hex commands a mid → AsksEach hex more mid b → AsksEach hex (commands ++ more) a b
@@ -27,3 +30,18 @@ pub all_asked : (hex : Bool) (commands : List AskedCommand) (place : ℕ) (a b :
     → AsksEach hex (take place commands) a b → AsksEach hex commands a b
 all_asked hex commands place a b all asked =
     subst (λ (l : List AskedCommand). AsksEach hex l a b) (take_all place commands all) asked
+
+-- the line stopped at the next one, or its answer was not printed
+pub stopped_each : (hex : Bool) (commands : List AskedCommand) (place : ℕ) (next : AskedCommand) (fault : AskFault) (a last : AskedSo) (s1 : Shown)
+    → place < length commands → next ≡ get_or commands place next → AsksEach hex (take place commands) a last
+    → IsOfPrinting fault ⊎ AskStops next.command fault last.shown s1 → IsOfPrinting fault ⊎ StopsEach hex commands fault a s1
+stopped_each hex commands place next fault a last s1 within is asked (inl printing) = inl printing
+stopped_each hex commands place next fault a last s1 within is asked (inr stops) =
+    inr (record {
+      place = place;
+      next = next;
+      is_next = slice_get_read commands (length commands) place next refl within is;
+      last = last;
+      asked = asked;
+      stops = stops;
+    })

@@ -2,8 +2,8 @@
 use Rattle.std.specs.Io.KnownBytes.{Appends}
 use Rattle.std.specs.Prelude.{◌≡◌, ◌⊎◌, ℕ, Bool, true, false, ◌==◌, List, [], ◌∷◌, ◌++◌, Option, None, Some}
 use Rattle.std.specs.List.{FoldsTo}
-use Rattle.std.specs.Prelude.{Result, Ok, Err, max, if◌then◌else◌}
-use Rattle.pldm_line.specs.Asked.{Asks, Shown}
+use Rattle.std.specs.Prelude.{Result, Ok, Err, max, slice_get, take, if◌then◌else◌}
+use Rattle.pldm_line.specs.Asked.{AskStops, Asks, Shown}
 use Rattle.pldm_line.specs.Ends.{answer_of}
 use Rattle.pldm_line.specs.declared.ask_fault.AskFault.{AskFault}
 use Rattle.pldm_line.specs.declared.ask_fault.AskFault.TheVariants as faults
@@ -74,3 +74,13 @@ pub record AsksOne (hex : Bool) (a : AskedSo) (asked : AskedCommand) (b : AskedS
 -- these commands were asked one after another, each once
 abbrev pub AsksEach : Bool → List AskedCommand → AskedSo → AskedSo → Type 0
 AsksEach hex commands a b = FoldsTo (AsksOne hex) a commands b
+
+-- the commands before one of these were asked; then the line stopped at that one
+pub record StopsEach (hex : Bool) (commands : List AskedCommand) (fault : AskFault) (a : AskedSo) (s1 : Shown) : Type 0
+  where
+    pub place : ℕ
+    pub next : AskedCommand
+    pub is_next : slice_get commands place ≡ Some next
+    pub last : AskedSo
+    pub asked : AsksEach hex (take place commands) a last
+    pub stops : AskStops next.command fault last.shown s1

@@ -2,7 +2,7 @@
 
 ghost use Rattle.std.specs.Io.KnownBytes.{Appends};
 ghost use Rattle.std.specs.Prelude.{◌≡◌, ◌≢◌, ◌≤◌, ◌⊎◌, ◌++◌, IfOk, IfErr, OnOk, option_map};
-ghost use Rattle.mctpctl.specs.AskedTexts.{AsksCommand, AsksEach, IsOfPrinting, Reports, asked_so, message_text, status_of_answer, status_of_message};
+ghost use Rattle.mctpctl.specs.AskedTexts.{AsksCommand, AsksEach, IsOfPrinting, Reports, StopsEach, asked_so, message_text, status_of_answer, status_of_message};
 ghost use Rattle.mctpctl.specs.Conversations.{IsGoingOn, printed_in, shown_in};
 ghost use Rattle.pldm_line.specs.Asked.{AskStops};
 ghost use Rattle.mctpctl_input.specs.Ports.{inner_of};
@@ -33,6 +33,10 @@ pub fn ask_each<C: Ticks, R: Read, W: Write, O: Write>(
         (printed_in O.contents conversation.old) DONE)
         (asked_so (shown_in C.to_come R.remaining W.contents conversation.new)
         (printed_in O.contents conversation.new) status)) }
+    ensures stopped { IfErr result (λ fault. IsOfPrinting fault ⊎ StopsEach question.now.hex commands.now fault
+        (asked_so (shown_in C.to_come R.remaining W.contents conversation.old)
+        (printed_in O.contents conversation.old) DONE)
+        (shown_in C.to_come R.remaining W.contents conversation.new)) }
     ensures range { IfOk result (λ status. status ≤ FAILED) }
     ensures going { OnOk result (IsGoingOn conversation.new) }
 {
@@ -58,6 +62,9 @@ fn ask_one<C: Ticks, R: Read, W: Write, O: Write>(
         (shown_in C.to_come R.remaining W.contents conversation.old)
         (shown_in C.to_come R.remaining W.contents conversation.new)
         (printed_in O.contents conversation.old) (printed_in O.contents conversation.new)) }
+    ensures stopped { IfErr result (λ fault. IsOfPrinting fault ⊎ AskStops asked.now.command fault
+        (shown_in C.to_come R.remaining W.contents conversation.old)
+        (shown_in C.to_come R.remaining W.contents conversation.new)) }
     ensures range { IfOk result (λ status. status ≤ FAILED) }
     ensures going { OnOk result (IsGoingOn conversation.new) }
 {

@@ -1,6 +1,6 @@
 -- One command more was asked.
 use Rattle.std.proofs.Common.{refl, rules}
-use Rattle.mctpctl.proofs.CommandsAsked.{all_asked, one_more}
+use Rattle.mctpctl.proofs.CommandsAsked.{all_asked, one_more, stopped_each}
 use Rattle.mctpctl.specs.AskedTexts.{asked_so}
 use Rattle.mctpctl.specs.Conversations.{printed_in, shown_in}
 use Rattle.mctpctl.specs.declared.statuses.TheConstants.{DONE}
@@ -26,3 +26,11 @@ loop-command-preserved g c =
 pub returns-clause-asked : goal.returns-clause-asked
 returns-clause-asked g c =
     all_asked c.args.question.now.hex c.args.commands.now c.loop-command.command-index _ _ c.loop-command-test.false c.loop-command.invariant.asked
+
+pub returns-in-Err-clause-stopped : goal.returns-in-Err-clause-stopped
+returns-in-Err-clause-stopped g c =
+    stopped_each c.args.question.now.hex c.args.commands.now c.loop-command.command-index c.command-item.result c.in-Err.fault
+    (asked_so (shown_in g.C.Ticks.to_come g.R.Read.remaining g.W.Write.contents c.args.conversation.now) (printed_in g.O.Write.contents c.args.conversation.now) DONE)
+    (asked_so (shown_in g.C.Ticks.to_come g.R.Read.remaining g.W.Write.contents c.loop-command.conversation) (printed_in g.O.Write.contents c.loop-command.conversation) c.loop-command.status)
+    (shown_in g.C.Ticks.to_come g.R.Read.remaining g.W.Write.contents c.ask_one.new.conversation)
+    c.loop-command-test.true c.command-item.is c.loop-command.invariant.asked c.in-Err.ensures.stopped
