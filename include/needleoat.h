@@ -106,6 +106,29 @@ enum needleoat_reason {
     NEEDLEOAT_NOT_AN_ENDPOINT = 255    /* the own endpoint ID is not 8 to 254, so nothing was read */
 };
 
+/*
+ * Completion codes by the names of DSP0240 ("Generic PLDM completion codes") and, from 0x80 on, of the commands that
+ * have them (DSP0240, DSP0248): there one number means another thing for each command.
+ */
+enum needleoat_completion_code {
+    NEEDLEOAT_CODE_SUCCESS = 0x00,
+    NEEDLEOAT_CODE_ERROR = 0x01,
+    NEEDLEOAT_CODE_INVALID_DATA = 0x02,
+    NEEDLEOAT_CODE_INVALID_LENGTH = 0x03,
+    NEEDLEOAT_CODE_NOT_READY = 0x04,
+    NEEDLEOAT_CODE_UNSUPPORTED_PLDM_CMD = 0x05,
+    NEEDLEOAT_CODE_INVALID_PLDM_TYPE = 0x20,
+    NEEDLEOAT_CODE_INVALID_DATA_TRANSFER_HANDLE = 0x80,  /* GetPLDMVersion, GetPDR */
+    NEEDLEOAT_CODE_INVALID_TRANSFER_OPERATION_FLAG = 0x81, /* GetPLDMVersion, GetPDR */
+    NEEDLEOAT_CODE_INVALID_PLDM_TYPE_IN_REQUEST_DATA = 0x83, /* GetPLDMVersion, GetPLDMCommands */
+    NEEDLEOAT_CODE_INVALID_PLDM_VERSION_IN_REQUEST_DATA = 0x84, /* GetPLDMCommands */
+    NEEDLEOAT_CODE_INVALID_SENSOR_ID = 0x80,             /* GetSensorReading, GetStateSensorReadings */
+    NEEDLEOAT_CODE_INVALID_EFFECTER_ID = 0x80,           /* the commands of effecters */
+    NEEDLEOAT_CODE_INVALID_STATE_VALUE = 0x81,           /* SetStateEffecterStates */
+    NEEDLEOAT_CODE_INVALID_RECORD_HANDLE = 0x82,         /* GetPDR */
+    NEEDLEOAT_CODE_INVALID_RECORD_CHANGE_NUMBER = 0x83   /* GetPDR */
+};
+
 /* ---- Packets ---- */
 
 /* A packet's fields. Where `reason` is not 0 the others have no meaning. The payload begins at byte 4. */

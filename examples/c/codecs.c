@@ -17,16 +17,16 @@ static int64_t speed = 10;
 
 static void perform(const struct needleoat_command *command, struct needleoat_answer *answer) {
     if (command->pldm_type != NEEDLEOAT_PLATFORM || command->effecter != 1) {
-        answer->code = 0x80; /* INVALID_EFFECTER_ID */
+        answer->code = NEEDLEOAT_CODE_INVALID_EFFECTER_ID;
     } else if (command->command == NEEDLEOAT_SET_NUMERIC_EFFECTER_VALUE) {
         if (command->size == NEEDLEOAT_UINT8) speed = command->value;
-        else answer->code = 0x02; /* ERROR_INVALID_DATA */
+        else answer->code = NEEDLEOAT_CODE_INVALID_DATA;
     } else if (command->command == NEEDLEOAT_GET_NUMERIC_EFFECTER_VALUE) {
         answer->size = NEEDLEOAT_UINT8;
         answer->operational = 1;
         answer->value = answer->pending_value = speed;
     } else {
-        answer->code = 0x05; /* ERROR_UNSUPPORTED_PLDM_CMD */
+        answer->code = NEEDLEOAT_CODE_UNSUPPORTED_PLDM_CMD;
     }
 }
 

@@ -11,7 +11,6 @@
 #include <string.h>
 
 enum { OWN = 9, MEMORY_TRIES = 3 };
-enum { ERROR_INVALID_DATA = 2, ERROR_UNSUPPORTED_COMMAND = 5, INVALID_EFFECTER_ID = 0x80 };
 enum { FULL_SPEED = 100, ENABLED_NO_UPDATE_PENDING = 1 };
 
 static int64_t speed = 10;
@@ -43,13 +42,15 @@ static struct needleoat_answer perform(const struct needleoat_command *command) 
     if (needleoat_records_answer(records, records_length, never, never, command, &answer) == 0) return answer;
     bool sets = command->command == NEEDLEOAT_SET_NUMERIC_EFFECTER_VALUE;
     bool gets = command->command == NEEDLEOAT_GET_NUMERIC_EFFECTER_VALUE;
-    if (command->pldm_type != NEEDLEOAT_PLATFORM || (!sets && !gets)) answer.code = ERROR_UNSUPPORTED_COMMAND;
-    else if (command->effecter != 1) answer.code = INVALID_EFFECTER_ID;
+    if (command->pldm_type != NEEDLEOAT_PLATFORM || (!sets && !gets))
+        answer.code = NEEDLEOAT_CODE_UNSUPPORTED_PLDM_CMD;
+    else if (command->effecter != 1) answer.code = NEEDLEOAT_CODE_INVALID_EFFECTER_ID;
     else if (gets) {
         answer.size = NEEDLEOAT_UINT8;
         answer.operational = ENABLED_NO_UPDATE_PENDING;
         answer.value = answer.pending_value = speed;
-    } else if (command->size != NEEDLEOAT_UINT8 || command->value > FULL_SPEED) answer.code = ERROR_INVALID_DATA;
+    } else if (command->size != NEEDLEOAT_UINT8 || command->value > FULL_SPEED)
+        answer.code = NEEDLEOAT_CODE_INVALID_DATA;
     else speed = command->value;
     return answer;
 }

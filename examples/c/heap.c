@@ -1,24 +1,11 @@
 /*
- * The memory of the library over malloc. Where the environment has REFUSED_GROWTH=N, the Nth growth is refused; at its
- * end the program writes how many there were, as `growths N` on standard error.
+ * The memory of the library over malloc. Two threads may call at once.
  */
 #include "needleoat.h"
 #include <stddef.h>
-#include <stdio.h>
 #include <stdlib.h>
 
 static uint8_t some_byte;
-static _Atomic unsigned long growths; /* two threads may call at once */
-
-static void report(void) { fprintf(stderr, "growths %lu\n", (unsigned long)growths); }
-
-/* Counts a growth, and says whether it is the one to be refused. */
-static bool is_refused(void) {
-    unsigned long growth = ++growths;
-    if (growth == 1) atexit(report);
-    const char *refused = getenv("REFUSED_GROWTH");
-    return refused && growth == strtoul(refused, NULL, 10);
-}
 
 static struct needleoat_block block(void *at) {
     return (struct needleoat_block){at != NULL, at ? at : &some_byte};
@@ -28,12 +15,12 @@ static struct needleoat_block block(void *at) {
 static bool fits(uint64_t size, uint64_t align) { return (size_t)size == size && align <= _Alignof(max_align_t); }
 
 struct needleoat_block rattle_alloc(uint64_t size, uint64_t align) {
-    return block(is_refused() || !fits(size, align) ? NULL : malloc(size ? (size_t)size : 1));
+    return block(fits(size, align) ? malloc(size ? (size_t)size : 1) : NULL);
 }
 
 struct needleoat_block rattle_realloc(uint8_t *old, uint64_t kept, uint64_t size, uint64_t align) {
     (void)kept;
-    return block(is_refused() || !fits(size, align) ? NULL : realloc(old, size ? (size_t)size : 1));
+    return block(fits(size, align) ? realloc(old, size ? (size_t)size : 1) : NULL);
 }
 
 void rattle_dealloc(uint8_t *old) { free(old); }
