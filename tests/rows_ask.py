@@ -9,6 +9,7 @@ import subprocess
 import tempfile
 import time
 
+from rows_explain import BYTE, COMMANDS, ID, UINT8
 from support.askers import ENDS, TIMES, Place
 from support.frames import frame, read_frames
 from support.programs import PIPES, SECONDS
@@ -22,6 +23,7 @@ SETTLING = 1.0  # the seconds before the first request, by these times
 GET_TID = bytes.fromhex("010908c801800002")
 ANSWER = frame(bytes.fromhex("010809c0010000020001"))
 TID_IS_1 = "  response 0 GetTID tid 1\n"
+SET_IN_DOUBT = "mctpctl: SetNumericEffecterValue: no answer; it may have been performed\n"
 
 
 def answered(rows, place):
@@ -55,15 +57,16 @@ def filed(rows, place):
 def unanswered(rows, place):
     """No answer in the tries: nothing more is asked of a device that is not there, and each try is one frame."""
     for name, words, err in (
-        ("another endpoint ID", ("gettid",), "mctpctl: no answer\n"),
-        ("a line of a file", ("--file", place.write("commands", "\ngettid\n")), "mctpctl: line 2: no answer\n"),
+        ("another endpoint ID", ("gettid",), "mctpctl: GetTID: no answer\n"),
+        ("a set", ("setnum", "1", "uint8", "40"), SET_IN_DOUBT),
+        ("a line of a file", ("--file", place.write("commands", "\ngettid\n")), "mctpctl: line 2: GetTID: no answer\n"),
     ):
         ran = place.served("ask", "--own", "8", "--device", "10", *TIMES, *words)
         rows.check(f"asked: {name} without an answer", ran == (3, b"", err.encode()), repr(ran))
     with Terminal() as terminal:
         ran = place.run("ask", "--line", terminal.name, *ENDS, *TIMES, "gettid")
         sent = terminal.read(0)
-    rows.check("asked: nobody is there", ran == (3, b"", b"mctpctl: no answer\n"), repr(ran))
+    rows.check("asked: nobody is there", ran == (3, b"", b"mctpctl: GetTID: no answer\n"), repr(ran))
     rows.check("asked: as many frames as tries", sent == frame(GET_TID) * 2, sent.hex())
 
 
@@ -104,6 +107,7 @@ def refused(rows, place):
     """Command lines, commands and timings that are refused, before a byte is written."""
     none = "either a COMMAND or '--file <FILE>' is needed"
     commands = place.write("commands", "gettid\n")
+    meant = f"COMMAND: 'getid': expected {COMMANDS}; did you mean 'gettid'?"
     lines = (
         ("an endpoint ID that is none", ("--own", "7", "--device", "9", "gettid"), "invalid value for '--own <EID>'"),
         ("a device that is none", ("--own", "8", "--device", "255", "gettid"), "invalid value for '--device <EID>'"),
@@ -117,8 +121,10 @@ def refused(rows, place):
         ("no command", ENDS, none),
         ("a command and a file", (*ENDS, "--file", commands, "gettid"), none),
         ("a comment for a command", (*ENDS, "# gettid"), none),
-        ("a word that is no command", (*ENDS, "getid"), "COMMAND: Words"),
-        ("a number out of range", (*ENDS, "settid", "256"), "COMMAND: Number"),
+        ("a word that is no command", (*ENDS, "getid"), meant),
+        ("a number out of range", (*ENDS, "settid", "256"), f"COMMAND: '256': expected {BYTE}"),
+        ("a value out of range", (*ENDS, "setnum", "1", "uint8", "400"), f"COMMAND: '400': expected {UINT8}"),
+        ("a word that is missing", (*ENDS, "sensor"), f"COMMAND: expected {ID} at the end of the line"),
     )
     for name, words, err in lines:
         with Terminal() as terminal:
@@ -253,7 +259,7 @@ def late(rows, place):
         terminal.write(ANSWER + frame(own))
         out, err = asking.communicate(timeout=SECONDS)
     ran = (asking.returncode, out, err)
-    want = (3, b"01010004000500000000000000\n", b"mctpctl: line 1: no answer\n")
+    want = (3, b"01010004000500000000000000\n", b"mctpctl: line 1: GetTID: no answer\n")
     rows.check("asked: a late answer", ran == want, repr(ran))
 
 
@@ -270,7 +276,7 @@ def garbage(rows, place):
         out, err = asking.communicate(timeout=SECONDS)
         passed = time.monotonic() - began
     ran = (asking.returncode, out, err)
-    well = ran == (3, b"", b"mctpctl: no answer\n") and passed < 10 * SETTLING
+    well = ran == (3, b"", b"mctpctl: GetTID: no answer\n") and passed < 10 * SETTLING
     rows.check("asked: garbage for ever", well, repr((passed, ran)))
 
 

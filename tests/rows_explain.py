@@ -169,6 +169,7 @@ HANDLE = "a handle from 0 to 4294967295"
 STATE = "'-' or a state from 0 to 255"
 NUMBER = "a number of at most 16 digits"
 VALUE = "a value of at most 16 digits"
+UINT8 = "a value of the size 'uint8', 0 to 255"
 
 # a line of a schedule after one requester's that has a wrong word: what is found, which is nothing where the line ended,
 # what is expected there, and the word that is suggested, if any
@@ -223,8 +224,8 @@ WRONG_NUMBERS = [
     ("requester 10 timeout 200 tries 256", "256", BYTE),
     ("at 0 open 8 settid 256", "256", BYTE),
     ("at 0 open 8 sensor 65536", "65536", ID),
-    ("at 0 open 8 setnum 1 uint8 300", "300", "a value of the size 'uint8'"),
-    ("at 0 open 8 setnum 1 sint16 -32769", "-32769", "a value of the size 'sint16'"),
+    ("at 0 open 8 setnum 1 uint8 300", "300", UINT8),
+    ("at 0 open 8 setnum 1 sint16 -32769", "-32769", "a value of the size 'sint16', -32768 to 32767"),
     ("at 0 open 8 setnum 1 uint8 x", "x", VALUE),
     ("at 0 open 8 setnum x uint8 30", "x", ID),
     ("at 0 open 8 setstate 1 - 256", "256", STATE),

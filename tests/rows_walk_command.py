@@ -54,6 +54,9 @@ TABLES = (
 )
 FOUND = 7
 
+# What a walk asks where nothing is answered: what depends on an answer is not asked.
+ASKED_FIRST = ("GetEndpointID", "GetEndpointUUID", "GetMessageTypeSupport", "GetTID", "GetPLDMTypes")
+
 
 def columns(rows):
     """Each column but the last as wide as its longest cell, and two spaces between."""
@@ -173,8 +176,8 @@ def refused(rows, place):
     well = (status, err, table) == (0, b"", "") and "records 0 " in answers[-1]
     rows.check("walked: a device without records", well, repr((status, out, err)))
     status, out, err = place.served("walk", "--own", "8", "--device", "10", *TIMES)
-    unanswered = b"mctpctl: no answer\n" * 5  # three control messages, the terminus ID and the types
-    rows.check("walked: nobody", (status, out, err) == (3, b"", unanswered), repr((status, out, err)))
+    unanswered = "".join(f"mctpctl: {name}: no answer\n" for name in ASKED_FIRST)
+    rows.check("walked: nobody", (status, out, err) == (3, b"", unanswered.encode()), repr((status, out, err)))
     ran = place.run("walk", "--line", "/dev/null", *ENDS, *TIMES)
     rows.check("walked: a line that ended", ran == (3, b"", b"mctpctl: the line ended\n"), repr(ran))
     for words in ((), ("--own", "8"), (*ENDS, "gettid"), (*ENDS, "--hex"), (*ENDS, "--file", "x")):

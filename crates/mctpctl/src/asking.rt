@@ -1,10 +1,12 @@
 //! `ask`: commands go out to a device on a serial line, and their answers are printed.
 
 ghost use Rattle.std.specs.Io.KnownBytes.{Appends};
-ghost use Rattle.std.specs.Prelude.{◌≡◌, ◌≢◌, ◌≤◌, ◌⊎◌, ◌++◌, IfOk, IfErr, OnOk, option_map};
+ghost use Rattle.std.specs.Prelude.{◌≡◌, ◌≢◌, ◌≤◌, ◌⊎◌, ◌++◌, [], IfOk, IfErr, OnOk, option_map, unwrap_or};
 ghost use Rattle.mctpctl.specs.AskedTexts.{AsksCommand, AsksEach, IsOfPrinting, Reports, StopsEach, asked_so, message_text, status_of_answer, status_of_message};
 ghost use Rattle.mctpctl.specs.Conversations.{IsGoingOn, printed_in, shown_in};
 ghost use Rattle.pldm_line.specs.Asked.{AskStops};
+ghost use Rattle.pldm_wire.specs.CommandNames.{name_of_kind};
+ghost use Rattle.pldm_wire.specs.Commands.{kind_of};
 ghost use Rattle.mctpctl_input.specs.Ports.{inner_of};
 
 use crate::commands::AskedCommand;
@@ -80,12 +82,29 @@ fn ask_one<C: Ticks, R: Read, W: Write, O: Write>(
     Ok(status)
 }
 
-/// Says that a command got no answer.
+/// Says that a command got no answer; of one that sets something, that it may have been performed: what was lost may be
+/// the answer alone.
 fn say_no_answer(rt: &HostRuntime, question: &AskOptions<'_>, asked: &AskedCommand) {
     if question.file.is_some() {
-        let _ = eprintln!(rt; "mctpctl: line {}: no answer", asked.line);
+        let _ = eprint!(rt; "mctpctl: line {}: ", asked.line);
     } else {
-        let _ = eprintln!(rt; "mctpctl: no answer");
+        let _ = eprint!(rt; "mctpctl: ");
+    }
+    let name = name_of(&asked.command);
+    if asked.command.sets() {
+        let _ = eprintln!(rt; "{name}: no answer; it may have been performed");
+    } else {
+        let _ = eprintln!(rt; "{name}: no answer");
+    }
+}
+
+/// A command's name, as DSP0240 and DSP0248 spell it.
+pub(crate) fn name_of(command: &Command) -> &'static str
+    ensures { result.now ≡ unwrap_or (name_of_kind (kind_of command.now)) [] }
+{
+    match command.kind().name() {
+        Some(name) => name,
+        None => "",
     }
 }
 

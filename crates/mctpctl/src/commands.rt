@@ -7,6 +7,7 @@ use crate::device_file::device_text;
 use line_words::split_line;
 use mctp_packet::Memory;
 use mctpctl_command_line::AskOptions;
+use mctpctl_explain::refused_text;
 use mctpctl_input::MAX_DESCRIPTION;
 use pldm_wire::Command;
 use schedule_text::{LineFaultKind, command_in};
@@ -27,8 +28,8 @@ pub struct AskedCommand {
 pub enum CommandsFault {
     /// Neither a command nor a file is given, or both are, or the command is a comment.
     None,
-    /// The words are no command, for this reason.
-    Word(LineFaultKind),
+    /// The words are no command: which word is wrong, and what may stand there.
+    Words(String),
     /// The line of the file with this number is no command, for this reason.
     Line(u64, LineFaultKind),
     /// The file was not opened or read.
@@ -89,13 +90,24 @@ fn command_in_words(alloc: Global, words: &[&str]) -> Result<Vec<AskedCommand>, 
     };
     let commands = match commands_in(alloc, &line) {
         Ok(commands) => commands,
-        Err(CommandsFault::Line(_, kind)) => return Err(CommandsFault::Word(kind)),
+        Err(CommandsFault::Line(..)) => return Err(words_fault(alloc, &line)),
         Err(fault) => return Err(fault),
     };
     if commands.is_empty() {
         return Err(CommandsFault::None); // a comment
     }
     Ok(commands)
+}
+
+/// Why a line says no command.
+fn words_fault(alloc: Global, line: &[u8]) -> CommandsFault {
+    let Err(refusal) = command_in(line) else {
+        return CommandsFault::None; // a comment
+    };
+    match refused_text(alloc, refusal.found, refusal.expected) {
+        Ok(text) => CommandsFault::Words(text),
+        Err(_) => CommandsFault::Memory,
+    }
 }
 
 /// These words as a line: a space follows each.

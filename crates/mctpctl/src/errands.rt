@@ -37,8 +37,8 @@ fn commands_failed(rt: &HostRuntime, question: &AskOptions<'_>, fault: &Commands
             let _ = eprint!(rt; "{NO_COMMAND}{TRY_HELP}");
             USAGE
         }
-        CommandsFault::Word(kind) => {
-            let _ = eprint!(rt; "error: COMMAND: {}{TRY_HELP}", kind.name());
+        CommandsFault::Words(text) => {
+            let _ = eprint!(rt; "error: COMMAND: {text}{TRY_HELP}");
             USAGE
         }
         CommandsFault::Line(number, kind) => {

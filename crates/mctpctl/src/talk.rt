@@ -20,7 +20,7 @@ use mctpctl_input::Port;
 use pldm_line::{AskFault, AskingLine, BeginFault, SystemTicks, Ticks, begin_after};
 use std::alloc::Global;
 use std::fs::{File, OpenOptions};
-use std::io::{Read, Write};
+use std::io::{IsTerminal, Read, Write};
 use std::{fs, io};
 
 /// What is asked of a device.
@@ -130,6 +130,7 @@ fn talk_over<R: Read + Drop, W: Write + Drop, O: Write + Drop>(
     };
     let mut reader = Port::new(reader);
     let mut writer = Port::new(writer);
+    say_waiting(rt, talk);
     let line = match begin_line(
         rt.alloc(),
         &talk.settings,
@@ -155,6 +156,15 @@ fn talk_over<R: Read + Drop, W: Write + Drop, O: Write + Drop>(
     match done {
         Ok(status) => status,
         Err(fault) => line_failed(rt, fault),
+    }
+}
+
+/// Says on a terminal for how long nothing is asked, where that is a second or more.
+fn say_waiting(rt: &HostRuntime, talk: &Talk<'_>) {
+    let span = settling_time(talk.settings.timing.keep, &talk.earlier);
+    if span >= 1_000 && rt.stderr().is_terminal() {
+        let seconds = span.div_ceil(1_000);
+        let _ = eprintln!(rt; "mctpctl: {seconds} s pass first: late answers to earlier requests may still come");
     }
 }
 

@@ -10,7 +10,7 @@ ghost use Rattle.mctpctl_table.specs.Rows.{rows_by};
 ghost use Rattle.pldm_line.specs.Queries.{StopsQuery};
 ghost use Rattle.mctpctl_input.specs.Ports.{inner_of};
 
-use crate::asking::{ask_command, print_message, print_text, status_of_answer};
+use crate::asking::{ask_command, name_of, print_message, print_text, status_of_answer};
 use crate::conversation::Conversation;
 use crate::settings::Settings;
 use crate::statuses::{DONE, FAILED, REFUSED};
@@ -81,17 +81,17 @@ fn ask_endpoint<C: Ticks, R: Read, W: Write, O: Write>(
     ensures going { OnOk result (IsGoingOn conversation.new) }
 {
     let eid = query(settings, 0, ControlCommand::GetEndpointId);
-    let eid_status = match ask_query(rt, settings, &eid, conversation) {
+    let eid_status = match ask_query(rt, settings, "GetEndpointID", &eid, conversation) {
         Ok(status) => status,
         Err(fault) => return Err(fault),
     };
     let uuid = query(settings, 1, ControlCommand::GetEndpointUuid);
-    let uuid_status = match ask_query(rt, settings, &uuid, conversation) {
+    let uuid_status = match ask_query(rt, settings, "GetEndpointUUID", &uuid, conversation) {
         Ok(status) => status,
         Err(fault) => return Err(fault),
     };
     let types = query(settings, 2, ControlCommand::GetMessageTypeSupport);
-    let types_status = match ask_query(rt, settings, &types, conversation) {
+    let types_status = match ask_query(rt, settings, "GetMessageTypeSupport", &types, conversation) {
         Ok(status) => status,
         Err(fault) => return Err(fault),
     };
@@ -113,10 +113,11 @@ fn query(settings: &Settings, id: u8, command: ControlCommand) -> Query
 }
 
 /// Asks a query and prints its own answer, and returns the exit status. Where none came, that is said on standard
-/// error.
+/// error, with the name of its command.
 fn ask_query<C: Ticks, R: Read, W: Write, O: Write>(
     rt: &HostRuntime,
     settings: &Settings,
+    name: &str,
     query: &Query,
     conversation: &mut Conversation<C, R, W, O>,
 ) -> Result<u8, AskFault>
@@ -144,7 +145,7 @@ fn ask_query<C: Ticks, R: Read, W: Write, O: Write>(
         Err(fault) => return Err(fault),
     };
     let Some(message) = answer else {
-        say_no_answer(rt);
+        say_no_answer(rt, name);
         return Ok(FAILED);
     };
     match print_message(rt.alloc(), false, &message, out) {
@@ -164,9 +165,17 @@ fn status_of_query(message: &[u8]) -> u8
     }
 }
 
-/// Says that a request got no answer.
-fn say_no_answer(rt: &HostRuntime) {
-    let _ = eprintln!(rt; "mctpctl: no answer");
+/// Says that the command of this name got no answer.
+fn say_no_answer(rt: &HostRuntime, name: &str) {
+    let _ = eprintln!(rt; "mctpctl: {name}: no answer");
+}
+
+/// The name of the command that a walk asks next; nothing at its end.
+fn next_name(walk: &Walk) -> &'static str {
+    match walk.next() {
+        Some(command) => name_of(&command),
+        None => "",
+    }
 }
 
 /// Asks the commands of a walk one after another, up to its end, and returns the greatest of their exit statuses.
@@ -188,6 +197,7 @@ pub fn ask_all<C: Ticks, R: Read, W: Write, O: Write>(
     let shows_progress = rt.stderr().is_terminal() && !rt.stdout().is_terminal();
     let mut status = DONE;
     for _ in 0..u64::MAX {
+        let name = next_name(walk);
         let asked = match ask_next(rt.alloc(), walk, conversation) {
             Ok(asked) => asked,
             Err(fault) => return Err(fault),
@@ -197,7 +207,7 @@ pub fn ask_all<C: Ticks, R: Read, W: Write, O: Write>(
             None => return Ok(status),
         }
         if asked == Some(FAILED) {
-            say_no_answer(rt);
+            say_no_answer(rt, name);
         }
         if shows_progress {
             say_progress(rt, walk);

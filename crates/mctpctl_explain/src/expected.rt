@@ -7,6 +7,7 @@ use crate::quote::quoted;
 use crate::suggest::{choice, suggestion};
 use line_words::MAX_DIGITS;
 use mctp_packet::{MAX_EID, MAX_MOMENT, MIN_EID, Memory};
+use pldm_wire::Size;
 use schedule_text::{Expected, MAX_BYTE, MAX_HANDLE, MAX_ID, MAX_TIMEOUT};
 use std::alloc::Global;
 
@@ -41,7 +42,11 @@ const PARTS: [&str; 2] = ["first", "next"];
 
 /// What is wrong with a word that may not stand where this is expected; with an empty one, that the line ended there.
 /// In which words it is said what is expected is tested.
-pub(crate) fn refused_text(
+///
+/// # Errors
+///
+/// `Memory` where a growth was refused.
+pub fn refused_text(
     alloc: Global,
     found: &[u8],
     expected: Expected,
@@ -66,7 +71,8 @@ fn expected_text(alloc: Global, expected: Expected) -> Result<String, Memory> {
         Expected::Value => Ok(format!(in alloc; "a value of at most {MAX_DIGITS} digits")?),
         Expected::SizedValue(size) => {
             let name = size.name();
-            Ok(format!(in alloc; "a value of the size '{name}'")?)
+            let range = range_of_size(size);
+            Ok(format!(in alloc; "a value of the size '{name}', {range}")?)
         }
         Expected::End => Ok(String::from_str(alloc, "the end of the line")?),
         _ => match range_of(expected) {
@@ -87,6 +93,18 @@ fn known_words(expected: Expected) -> &'static [&'static str] {
         Expected::Size => &SIZES,
         Expected::Part => &PARTS,
         _ => &[],
+    }
+}
+
+/// The numbers of a data size (DSP0248, "sensorDataSize").
+fn range_of_size(size: Size) -> &'static str {
+    match size {
+        Size::Uint8 => "0 to 255",
+        Size::Sint8 => "-128 to 127",
+        Size::Uint16 => "0 to 65535",
+        Size::Sint16 => "-32768 to 32767",
+        Size::Uint32 => "0 to 4294967295",
+        Size::Sint32 => "-2147483648 to 2147483647",
     }
 }
 

@@ -24,5 +24,6 @@ mod suggest;
 mod timing;
 mod words;
 
+pub use expected::refused_text;
 pub use explanation::{Subcommand, explain};
 pub use input_warnings::{MAX_WARNINGS, warnings};
