@@ -50,8 +50,9 @@ def filed(rows, place):
     text = "sensor 99\r\ngettid\r\n"
     ran = place.served("ask", *ENDS, *TIMES, "--hex", f"--file={place.write('commands', text)}")
     rows.check("asked: a refusal, then an answer", ran == (1, b"0100021180\n010100020001\n", b""), repr(ran))
-    ran = place.served("ask", *ENDS, *TIMES, "--file", place.write("commands", "\n# none\n"))
-    rows.check("asked: a file without a command", ran == (0, b"", b""), repr(ran))
+    file = place.write("commands", "\n# none\n")
+    ran = place.served("ask", *ENDS, *TIMES, "--file", file)
+    rows.check("asked: a file without a command", ran == (0, b"", f"mctpctl: {file}: no command\n".encode()), repr(ran))
 
 
 def unanswered(rows, place):

@@ -4,7 +4,7 @@ ghost use Rattle.std.specs.Prelude.{◌≤◌};
 
 use crate::commands::{CommandsFault, read_commands};
 use crate::settings::periods_of;
-use crate::statuses::{FAILED, USAGE};
+use crate::statuses::{DONE, FAILED, USAGE};
 use crate::talk::{Errand, do_errand, read_settings};
 use mctpctl_command_line::{AskOptions, NO_COMMAND, TRY_HELP, WalkOptions, WatchOptions};
 
@@ -16,15 +16,20 @@ pub fn ask_device(rt: &HostRuntime, question: &AskOptions<'_>, words: &[&str]) -
         Ok(settings) => settings,
         Err(status) => return status,
     };
-    match read_commands(rt, question, words) {
-        Ok(commands) => do_errand(
-            rt,
-            &question.link,
-            &settings,
-            Errand::Ask(question, &commands),
-        ),
-        Err(fault) => commands_failed(rt, question, &fault),
+    let commands = match read_commands(rt, question, words) {
+        Ok(commands) => commands,
+        Err(fault) => return commands_failed(rt, question, &fault),
+    };
+    if commands.is_empty() {
+        let _ = eprintln!(rt; "mctpctl: {}: no command", question.file.unwrap_or(""));
+        return DONE;
     }
+    do_errand(
+        rt,
+        &question.link,
+        &settings,
+        Errand::Ask(question, &commands),
+    )
 }
 
 /// Says why there are no commands, and returns the exit status.

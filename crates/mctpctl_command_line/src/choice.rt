@@ -375,7 +375,7 @@ fn program<'a>(alloc: Global) -> Command<'a>
     ensures { app_of result ≡ the_program }
 {
     Command::new(alloc, "mctpctl")
-        .about("A simulated PLDM device behind MCTP, on standard input and output")
+        .about("PLDM over MCTP: captures, a simulated device, and a requester on a serial line")
         .version(VERSION)
         .after_help(STATUSES)
         .subcommand_required(true)
