@@ -47,7 +47,8 @@ def whole(texts):
     """Each command line that asks for help, and all that is to be written for it."""
     commands = "".join(f"  {name:<8}{about}\n" for name, about in {**ABOUT, "serve": SERVES, **ON_A_LINE}.items())
     commands += "  help    Print this message or the help of the given subcommand(s)\n"
-    first = "PLDM over MCTP: captures, a simulated device, and a requester on a serial line\n\nUsage: mctpctl <COMMAND>\n\n"
+    first = "PLDM over MCTP: captures, a simulated device, and a requester on a serial line\n\n"
+    first += "Usage: mctpctl <COMMAND>\n\n"
     top = f"{first}Commands:\n{commands}\n{TOP_OPTIONS}\n{texts['STATUSES']}\n"
     yield ["--version"], f"mctpctl {texts['VERSION']}\n"
     yield ["-V"], f"mctpctl {texts['VERSION']}\n"

@@ -22,14 +22,14 @@ CHANGER = os.path.join(ROOT, "tests", "changed_answers.py")
 ENABLED, ON = "enabled-noUpdatePending", "state 1 (set 260: 1, 5)"
 BOARD = (
     ("sensor 1", "Fan", "4200 rpm", "normal"),
-    ("sensor 2", "Inlet temperature", "41.5 degrees_c", "normal"),
-    ("sensor 3", "12 V", "12.040 volts", "normal"),
-    ("sensor 4", "3.3 V", "3.310 volts", "normal"),
+    ("sensor 2", "Inlet temperature", "41.5 °C", "normal"),
+    ("sensor 3", "12 V", "12.040 V", "normal"),
+    ("sensor 4", "3.3 V", "3.310 V", "normal"),
     ("sensor 5", "Power", ON, "enabled"),
-    ("effecter 1", "Fan speed", "40 percent", ENABLED),
+    ("effecter 1", "Fan speed", "40 %", ENABLED),
     ("effecter 2", "Power", ON, ENABLED),
 )
-OPENBMC = (("sensor 1", "-", "40 degrees_c", "normal"), ("effecter 1", "-", "10 percent", ENABLED))
+OPENBMC = (("sensor 1", "-", "40 °C", "normal"), ("effecter 1", "-", "10 %", ENABLED))
 PLATFORM = (
     ("sensor 1", "-", "200", "normal"),
     ("sensor 2", "-", "-5", "upperWarning"),

@@ -67,7 +67,7 @@ def changed(rows, place):
     well = (err, sorted(marks)) == (b"", ["  "] * 5 + [" *"])
     rows.check("watched: a change is marked once", well, repr((marks, err)))
     last = periods_of(out + rest)[-1][1]
-    want = columns((OPENBMC[0], (*OPENBMC[1][:2], "70 percent", OPENBMC[1][3]))).splitlines()
+    want = columns((OPENBMC[0], (*OPENBMC[1][:2], "70 %", OPENBMC[1][3]))).splitlines()
     rows.check("watched: the value that was set", [row[2:] for row in last] == want, repr(last))
 
 

@@ -134,10 +134,10 @@ fn answers(rt: HostRuntime) {
     );
     let text = "\
 sensor 1      Fan          4200 rpm                   normal
-sensor 2      Température  41.5 degrees_c             upperWarning, disabled
-sensor 3      -            12.040 volts               unknown
+sensor 2      Température  41.5 °C                    upperWarning, disabled
+sensor 3      -            12.040 V                   unknown
 sensor 5      Power        state 1 (set 260: 1, 5)    enabled
-effecter 1    Fan speed    40 percent                 enabled-updatePending
+effecter 1    Fan speed    40 %                       enabled-updatePending
 effecter 300  -            state 2 (set 1: 1, 2)      enabled-noUpdatePending
 effecter 300  b\u{fffd}\u{fffd}          state 15 (set 196: 1, 15)  state 9
 ";

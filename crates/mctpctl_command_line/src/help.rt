@@ -274,8 +274,8 @@ What was not answered, or refused, is passed over, with what depends on it:
 
     response 0 GetTID tid 1
 
-  sensor 1    Fan        4200 rpm    normal
-  effecter 1  Fan speed  40 percent  enabled-noUpdatePending
+  sensor 1    Fan        4200 rpm  normal
+  effecter 1  Fan speed  40 %      enabled-noUpdatePending
 
 A --records file gets the bytes of the records, one after another.
 
@@ -301,8 +301,8 @@ and a blank line. A row whose value or state is another than in the period befor
 with '*':
 
   12500 ms
-  * sensor 1    Fan        4260 rpm    normal
-    effecter 1  Fan speed  40 percent  enabled-noUpdatePending
+  * sensor 1    Fan        4260 rpm  normal
+    effecter 1  Fan speed  40 %      enabled-noUpdatePending
 
 A --log file gets a line for each row: the moment, what it is of, and its value:
 

@@ -1,5 +1,5 @@
 -- A worked table: from records and messages, spelled byte by byte, to text.
-use Rattle.std.proofs.Common.{◌≡◌, ℕ, List, [], ◌∷◌, codes, None, Some, refl}
+use Rattle.std.proofs.Common.{◌≡◌, ℕ, List, [], ◌∷◌, ◌++◌, codes, None, Some, refl}
 use Rattle.std.specs.Char.{encode_utf8}
 use Rattle.std.specs.Char.Utf16.{utf16_chars}
 use Rattle.std.specs.Fmt.{digits}
@@ -20,7 +20,7 @@ use Rattle.mctpctl_table.specs.Real32s.{real32_decimal, shortest}
 use Rattle.mctpctl_table.specs.Rows.{data_rows, described_of, field_row, field_rows, name_cell, numeric_row, rows_of}
 use Rattle.mctpctl_table.specs.States.{listed, operation_text, possible_from, present_text, state_value_text}
 use Rattle.mctpctl_table.specs.Tables.{line, table_text}
-use Rattle.mctpctl_table.specs.Units.{is_shown, rate_name, unit_text}
+use Rattle.mctpctl_table.specs.Units.{base_unit_text, degrees, is_shown, rate_name, unit_text}
 use Rattle.mctpctl_table.specs.Values.{value_of, value_text}
 
 -- sensor 5, state set 260 with the states 1 and 5
@@ -57,6 +57,6 @@ inlet =
 inlet_answer : List ℕ
 inlet_answer = 1 ∷ 0 ∷ 2 ∷ 17 ∷ 0 ∷ 3 ∷ 1 ∷ 0 ∷ 8 ∷ 1 ∷ 8 ∷ 159 ∷ 1 ∷ []
 
-warm : table_text (rows_of inlet (power_name ∷ []) (Some inlet_answer)) ≡ codes "sensor 2  -  41.5 degrees_c  upperWarning, disabled\n"
-unfolding power_name inlet inlet_answer described_of data_rows numeric_row name_cell names_of and_then byte_at signed_byte_at flag_at list_at number_at sized_at size_at refused entity_at units_at conversion_at sensor_range_at format_at numeric_sensor_at success_of response_of operation_text present_text line digits value_text value_of is_shown rate_name unit_text unit_name electric_unit_name real32_decimal shortest size_text
+warm : table_text (rows_of inlet (power_name ∷ []) (Some inlet_answer)) ≡ codes "sensor 2  -  41.5 " ++ degrees (codes "C  upperWarning, disabled\n")
+unfolding power_name inlet inlet_answer described_of data_rows numeric_row name_cell names_of and_then byte_at signed_byte_at flag_at list_at number_at sized_at size_at refused entity_at units_at conversion_at sensor_range_at format_at numeric_sensor_at success_of response_of operation_text present_text line digits value_text value_of is_shown rate_name base_unit_text unit_text unit_name electric_unit_name real32_decimal shortest size_text
 warm = refl

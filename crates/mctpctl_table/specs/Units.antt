@@ -18,6 +18,24 @@ rate_name rate =
     else if rate == 9 then Some (codes "year")
     else None
 
+-- The sign of a degree, in UTF-8, before what follows it.
+abbrev pub degrees : List ℕ → List ℕ
+degrees scale = 194 ∷ 176 ∷ scale
+
+-- A base unit by its symbol, where it has a usual one, else by its name.
+unfoldable pub base_unit_text : ℕ → Option (List ℕ)
+base_unit_text unit =
+    if unit == 2 then Some (degrees (codes "C"))
+    else if unit == 3 then Some (degrees (codes "F"))
+    else if unit == 4 then Some (codes "K")
+    else if unit == 5 then Some (codes "V")
+    else if unit == 6 then Some (codes "A")
+    else if unit == 7 then Some (codes "W")
+    else if unit == 8 then Some (codes "J")
+    else if unit == 20 then Some (codes "Hz")
+    else if unit == 65 then Some (codes "%")
+    else unit_name unit
+
 -- A base unit and a rate with names are shown. An auxiliary unit is not, which a value is also divided by or multiplied
 -- with.
 unfoldable pub is_shown : Units → Bool
@@ -34,4 +52,4 @@ behind character (Some name) = character ∷ name
 unfoldable pub unit_text : Units → List ℕ
 unit_text units =
     if (units.rate_unit == 0) && nat_lt units.base_unit 2 then []
-    else behind 32 (unit_name units.base_unit) ++ behind 47 (rate_name units.rate_unit)
+    else behind 32 (base_unit_text units.base_unit) ++ behind 47 (rate_name units.rate_unit)

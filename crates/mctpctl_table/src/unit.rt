@@ -1,7 +1,7 @@
 //! The unit of a value.
 
 ghost use Rattle.std.specs.Prelude.{◌≡◌, ◌++◌, OnOk, option_map};
-ghost use Rattle.mctpctl_table.specs.Units.{behind, is_shown, rate_name, unit_text};
+ghost use Rattle.mctpctl_table.specs.Units.{base_unit_text, behind, is_shown, rate_name, unit_text};
 
 use crate::text::push_text;
 use mctp_packet::Memory;
@@ -26,7 +26,7 @@ pub(crate) fn push_unit(out: &mut Vec<u8>, units: &Units) -> Result<(), Memory>
     if units.rate_unit == 0 && units.base_unit < 2 {
         return Ok(());
     }
-    push_behind(out, b' ', unit_name(units.base_unit))?;
+    push_behind(out, b' ', base_unit_text(units.base_unit))?;
     push_behind(out, b'/', rate_name(units.rate_unit))
 }
 
@@ -41,6 +41,25 @@ fn push_behind(out: &mut Vec<u8>, character: u8, name: Option<&str>) -> Result<(
             push_text(out, name)
         }
         None => Ok(()),
+    }
+}
+
+/// A base unit by its symbol, where it has a usual one, else by its name (DSP0248, "Sensor units").
+#[tactic(auto, unfolding(crate::specs::Units::base_unit_text))]
+fn base_unit_text(unit: u8) -> Option<&'static str>
+    ensures { option_map (λ text. text.now) result ≡ base_unit_text unit }
+{
+    match unit {
+        2 => Some("°C"),
+        3 => Some("°F"),
+        4 => Some("K"),
+        5 => Some("V"),
+        6 => Some("A"),
+        7 => Some("W"),
+        8 => Some("J"),
+        20 => Some("Hz"),
+        65 => Some("%"),
+        _ => unit_name(unit),
     }
 }
 
