@@ -181,8 +181,15 @@ def conversion(rows, program, description, device):
     rows.check("walk: a resolution, an offset and a modifier", well, repr(ran))
 
 
+def without_a_terminus(rows, program):
+    """The one record of examples/device.toml is a terminus locator that says that it is not valid."""
+    ran = walk(program, os.path.join(ROOT, "examples", "device.toml"))
+    rows.check("walk: a locator that is not valid is passed over", ran.returncode == 0, repr(ran))
+
+
 def check(rows, program):
     device = text_of("openbmc.toml")
+    without_a_terminus(rows, program)
     with tempfile.TemporaryDirectory() as folder:
         description = os.path.join(folder, "device.toml")
         tables(rows, program, description)

@@ -113,13 +113,21 @@ class Fields:
         """Names, each a language tag in ASCII and a text in UTF-16, high byte first; the texts."""
         return tuple((self.text(1, "ascii"), self.text(2, "utf-16-be"))[1] for _ in range(count))
 
+    def pass_over(self):
+        """What is left is not looked at."""
+        self.place = len(self.data)
+
     def end(self):
         if self.place != len(self.data):
             raise Fault(f"{len(self.data) - self.place} bytes after the last field")
 
 
 def terminus_locator(fields):
-    _, _, tid, _, kind, size = fields.take("HBBHBB")
+    """Where a terminus is; None of a record that says that it is not valid, whose other bytes mean nothing."""
+    _, is_valid, tid, _, kind, size = fields.take("H?BHBB")
+    if not is_valid:
+        fields.pass_over()
+        return None
     if (kind, size) != (1, 1):
         raise Fault(f"locator type {kind} with {size} bytes, and no MCTP endpoint ID")
     return Terminus(tid, fields.take("B"))
@@ -212,7 +220,7 @@ def header_of(record):
 
 
 def contents_of(record):
-    """What a record says, None where it is of another type than those above."""
+    """What a record says, None where it is of another type than those above, or not valid."""
     reader, fields = READERS.get(header_of(record).kind), Fields(record[HEADER_BYTES:])
     if reader is None:
         return None
