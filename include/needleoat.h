@@ -981,6 +981,14 @@ struct needleoat_due {
  */
 uint8_t needleoat_requester_tick(struct needleoat_requester *requester, uint64_t now_ms, struct needleoat_due *due);
 
+/*
+ * Whether there is a moment from which on needleoat_requester_tick finds something due, and nothing before: then it is
+ * put into `deadline_ms`. So a caller may sleep until then, or until a packet comes; each other call may change it. It
+ * may be a moment that has passed: then a tick is due at once. False where no request is open, or nothing is there:
+ * `deadline_ms` is as it was.
+ */
+bool needleoat_requester_next_deadline(struct needleoat_requester *requester, uint64_t *deadline_ms);
+
 /* What becomes of a packet. */
 enum needleoat_receiving_kind {
     NEEDLEOAT_RECEIVING_REFUSED = 0, /* it is refused, and all is as before */

@@ -88,6 +88,14 @@ static void tick(uint64_t now) {
     for (uint32_t i = 0; i < due.given_up_count; i++) printf("%" PRIu64 " gave up %" PRIu64 "\n", now, due.given_up[i]);
 }
 
+/* How long the caller may sleep. */
+static void print_deadline(void) {
+    uint64_t deadline;
+    if (needleoat_requester_next_deadline(&requester, &deadline))
+        printf("nothing is due before %" PRIu64 "\n", deadline);
+    else printf("nothing is due\n");
+}
+
 static void receive(uint64_t now) {
     struct needleoat_receiving r;
     int tries = MEMORY_TRIES;
@@ -120,10 +128,12 @@ int main(void) {
     open(0, &set);
     printf("0 %s\n", device(packet, send(0))); /* this answer is lost */
     status(0);
+    print_deadline();
     tick(199);
     tick(200);
     printf("200 %s\n", device(packet, send(0)));
     receive(210);
+    print_deadline();
     receive(211);
     status(0);
 
@@ -134,6 +144,7 @@ int main(void) {
 
     open(399, &(struct needleoat_command){.pldm_type = 1});
     open(400, &get_tid);
+    print_deadline();
     tick(399);
     tick(1000);
     status(2);

@@ -169,6 +169,8 @@ static void requester_new(void) {
 }
 static void requester_open(void) { needleoat_requester_open(&requester, 0, request, request_length); }
 static void requester_packet(void) { needleoat_requester_packet(&requester, 0, packet); }
+static uint64_t deadline;
+static void requester_next_deadline(void) { needleoat_requester_next_deadline(&requester, &deadline); }
 static void requester_tick(void) { needleoat_requester_tick(&requester, 200, &due); }
 static void receive_packet(uint32_t index) {
     packet_length = needleoat_packet_write(8, 9, false, 0, response, response_length, index, packet);
@@ -211,7 +213,8 @@ static const struct {
     {"needleoat_endpoint_receive, first packet", receive_start},
     {"needleoat_endpoint_restart", endpoint_restart}, {"needleoat_endpoint_free", endpoint_free},
     {"needleoat_requester_new", requester_new}, {"needleoat_requester_open", requester_open},
-    {"needleoat_requester_packet", requester_packet}, {"needleoat_requester_tick", requester_tick},
+    {"needleoat_requester_packet", requester_packet},
+    {"needleoat_requester_next_deadline", requester_next_deadline}, {"needleoat_requester_tick", requester_tick},
     {"needleoat_requester_receive, first packet", receive_first},
     {"needleoat_requester_receive, middle packets", receive_middle},
     {"needleoat_requester_receive, last packet", receive_last},

@@ -9,6 +9,7 @@ use Rattle.pldm_wire.specs.CommandReading.{command_of}
 use Rattle.pldm_wire.specs.Requests.{Request, request_of}
 use Rattle.pldm_wire.specs.declared.command.Command.{Command}
 use Rattle.pldm_requester.specs.Courses.{Progress, Waiting, Answered, GaveUp}
+use Rattle.pldm_requester.specs.Deadlines.{IsDeadline}
 use Rattle.pldm_requester.specs.Slots.{held_of}
 use Rattle.pldm_requester.specs.Steps.{RequesterState, IsHeld, Memo, again_at, given_up_at, got_at, held_at_first, opened_held, opening_answer}
 use Rattle.pldm_requester.specs.Steps.{received_held, ticked_held}
@@ -162,6 +163,13 @@ ReportsDue now due (Some held) = AreDue now held due
 
 abbrev pub ticked_by : ℕ → ℕ → RequesterState → RequesterState
 ticked_by now refusal held = if refusal == 0 then ticked_held held now else held
+
+-- whether there is a moment from which on a tick has something to do, and which: where there is none, or no requester,
+-- what stood there stays
+abbrev pub ReportsDeadline : Option RequesterState → Bool → ℕ → ℕ → Type 0
+ReportsDeadline None found old new = (found ≡ false) × (new ≡ old)
+ReportsDeadline (Some held) true old new = IsDeadline held (Some new)
+ReportsDeadline (Some held) false old new = IsDeadline held None × (new ≡ old)
 
 -- ---- packets that come ----
 

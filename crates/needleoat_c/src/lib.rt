@@ -24,9 +24,9 @@ pub use reports::{
     DueReport, HandleFields, OpeningReport, PacketReport, RequestFields, StatusReport, StepReport,
 };
 pub use requester_calls::{
-    needleoat_requester_free, needleoat_requester_new, needleoat_requester_open,
-    needleoat_requester_packet, needleoat_requester_receive, needleoat_requester_status,
-    needleoat_requester_tick,
+    needleoat_requester_free, needleoat_requester_new, needleoat_requester_next_deadline,
+    needleoat_requester_open, needleoat_requester_packet, needleoat_requester_receive,
+    needleoat_requester_status, needleoat_requester_tick,
 };
 pub use requester_handle::{HiddenRequester, RequesterForC, RequesterHandle};
 pub use settings::{EndpointSettings, RequesterSettings};

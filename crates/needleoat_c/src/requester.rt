@@ -6,7 +6,7 @@ ghost use Rattle.pldm_requester.specs.Slots.{held_of};
 ghost use Rattle.pldm_requester.specs.RequestProgress.{progress_in_status};
 ghost use Rattle.pldm_requester.specs.Steps.{IsHeld};
 ghost use Rattle.needleoat_forms.specs.Written.{IsWritten};
-ghost use Rattle.needleoat_c.specs.Requesters.{AreInFront, ReportsDue, ReportsGot, ReportsOpening, ReportsPacketIn, ReportsProgress, command_in, fault_number, fitting, is_next, opened_by, opening_in, packet_of, received_by, refusal_at, progress_of, ticked_by};
+ghost use Rattle.needleoat_c.specs.Requesters.{AreInFront, ReportsDeadline, ReportsDue, ReportsGot, ReportsOpening, ReportsPacketIn, ReportsProgress, command_in, fault_number, fitting, is_next, opened_by, opening_in, packet_of, received_by, refusal_at, progress_of, ticked_by};
 
 use crate::kinds::{
     RECEIVING_ANSWERED, RECEIVING_DROPPED, RECEIVING_PARTIAL, RECEIVING_REFUSED, STATUS_ANSWERED,
@@ -93,6 +93,20 @@ pub(crate) fn tick(requester: &mut Requester, now_ms: u64, due: &mut DueReport) 
     due.again_count = put_numbers(&mut due.again, &found.again);
     due.given_up_count = put_numbers(&mut due.given_up, &found.given_up);
     0
+}
+
+/// Puts the moment from which on a tick finds something due in the place of what is there, and returns whether there is
+/// one.
+pub(crate) fn next_deadline(requester: &Requester, deadline_ms: &mut u64) -> bool
+    ensures { ReportsDeadline (Some (held_of requester.now)) result deadline_ms.old deadline_ms.new }
+{
+    match requester.next_deadline() {
+        Some(deadline) => {
+            *deadline_ms = deadline.get();
+            true
+        }
+        None => false,
+    }
 }
 
 /// Puts numbers in front, and returns how many there are.

@@ -2,7 +2,7 @@
 
 ghost use Rattle.std.specs.Prelude.{◌≡◌, ◌≢◌, false, true};
 ghost use Rattle.needleoat_forms.specs.Written.{IsWritten};
-ghost use Rattle.needleoat_c.specs.Requesters.{HoldsAfter, IsNew, IsUpheld, MayNeedRoom, ReportsDue, ReportsMaking, ReportsOpening, ReportsPacket, ReportsProgress, holding, opened_by, opening_at, packet_of, received_by, refusal_at, progress_of, ticked_by, unchanged};
+ghost use Rattle.needleoat_c.specs.Requesters.{HoldsAfter, IsNew, IsUpheld, MayNeedRoom, ReportsDeadline, ReportsDue, ReportsMaking, ReportsOpening, ReportsPacket, ReportsProgress, holding, opened_by, opening_at, packet_of, received_by, refusal_at, progress_of, ticked_by, unchanged};
 
 use crate::kinds::{RECEIVING_REFUSED, STATUS_UNKNOWN};
 use crate::refusals::{ALREADY_THERE, NO_MEMORY, NOTHING_THERE, OUT_OF_RANGE};
@@ -103,6 +103,28 @@ pub extern "C" fn needleoat_requester_tick(
     let refusal = requester::tick(&mut inside, now_ms, due);
     requester.handle.put(inside);
     refusal
+}
+
+/// Tells how long the caller may sleep: whether there is a moment from which on `needleoat_requester_tick` finds
+/// something due, and nothing before, and which. Where there is none, `deadline_ms` stays as it was.
+#[unsafe(no_mangle)]
+pub extern "C" fn needleoat_requester_next_deadline(
+    alloc: Global,
+    requester: &mut RequesterForC,
+    deadline_ms: &mut u64,
+) -> bool
+    requires { IsUpheld requester.old }
+    ensures upheld { IsUpheld requester.new }
+    ensures deadline { ReportsDeadline (holding requester.old.handle.held) result deadline_ms.old deadline_ms.new }
+    ensures held { HoldsAfter unchanged requester.old.handle.held requester.new.handle.held }
+{
+    if !requester.is_live {
+        return false;
+    }
+    let inside = requester.handle.take(alloc);
+    let found = requester::next_deadline(&inside, deadline_ms);
+    requester.handle.put(inside);
+    found
 }
 
 /// Receives the bytes of a packet that came at a moment.
