@@ -9,3 +9,4 @@ pub mod TagSearch
 pub mod FedPackets
 pub mod Moments
 pub mod CallsLookBack
+pub mod NextDeadlines

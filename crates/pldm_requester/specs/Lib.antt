@@ -8,3 +8,4 @@ pub mod Calls
 pub mod Steps
 pub mod Slots
 pub mod Laws
+pub mod Deadlines

@@ -1,6 +1,7 @@
 //! Laws of a requester, over the definitions alone: each function does nothing and ensures its law.
 
 ghost use Rattle.pldm_requester.specs.Laws.{OpenLooksBack, TickLooksBack, ReceiveLooksBack, NewLooksBack, SameIsLeft, OpenAreRecent, FewAreOpen, OpenAreOpened, OneOnEachTag, FoundOnItsTag, FedSinceItsOpening, BeginsWithNone, OpenedBefore, IdsApart};
+ghost use Rattle.pldm_requester.specs.Deadlines.{SleepMissesNothing};
 
 /// What a requester holds after any list of calls, and what it answers then, is read by looking back
 /// over the list.
@@ -31,4 +32,10 @@ pub fn one_open_on_each_tag()
 pub fn instance_ids_are_apart()
     ensures before { OpenedBefore }
     ensures apart { IdsApart }
+{}
+
+/// An end that sleeps until [`crate::Requester::next_deadline`] misses nothing: a tick before it may be left out. It
+/// finds nothing due and changes no request, and the deadline stays the same.
+pub fn sleep_misses_nothing()
+    ensures { SleepMissesNothing }
 {}

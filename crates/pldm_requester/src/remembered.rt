@@ -56,11 +56,12 @@ impl Model for Remembered {
 }
 
 impl Remembered {
-    ghost use Rattle.std.specs.Prelude.{◌≡◌, ◌<◌, ◌≤◌, [], ◌∷◌, ◌++◌, length, if◌then◌else◌};
+    ghost use Rattle.std.specs.Prelude.{◌≡◌, ℕ, ◌<◌, ◌≤◌, [], ◌∷◌, ◌++◌, length, if◌then◌else◌};
     ghost use Rattle.arrayvec.specs.ArrayVec.{array_vec_len};
     ghost use Rattle.mctp_packet.specs.Pieces.{written_packets};
     ghost use Rattle.pldm_wire.specs.Commands.{IsCommand, command_message, kind_of};
     ghost use Rattle.pldm_requester.specs.Courses.{answered, begun, is_open, is_over, is_given_up, is_sent_again, ticked};
+    ghost use Rattle.pldm_requester.specs.Deadlines.{is_due, is_reached};
     ghost use Rattle.pldm_requester.specs.Steps.{with_course};
     ghost use Rattle.pldm_requester.specs.RequestProgress.{progress_in_status};
 
@@ -155,6 +156,18 @@ impl Remembered {
             self.last_sent = now;
             due.again.push(number);
         }
+    }
+
+    /// The moment from which on a tick has something to do for it, where it is open.
+    pub(crate) fn due_from(&self, timing: &Timing) -> Option<u64>
+        ensures { (moment : ℕ) → is_reached result moment ≡ is_due timing.now moment self.now.course }
+    {
+        if !self.is_open() {
+            return None;
+        }
+        let over = self.opening.get() + timing.life();
+        let again = self.last_sent.get() + u64::from(timing.timeout);
+        Some(if again < over { again } else { over })
     }
 
     /// It is answered by this message.

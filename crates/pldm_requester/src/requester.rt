@@ -1,6 +1,6 @@
 //! The requesting end of a link: requests opened, sent again at ticks, and answered by packets.
 
-ghost use Rattle.std.specs.Prelude.{◌≡◌, ◌⊎◌, ℕ, ◌+◌, ◌%◌, ◌^◌, ◌<◌, ◌≤◌, true, [], ◌∷◌, ◌++◌, length, filter, if◌then◌else◌, None, Some, Ok, Err, option_map, vec_len, vec_capacity, IfOk, IfErr, IfSome, IsErrOf, OnOk, OnErr};
+ghost use Rattle.std.specs.Prelude.{◌≡◌, ◌⊎◌, ℕ, ◌+◌, ◌%◌, ◌^◌, ◌<◌, ◌≤◌, true, ◌||◌, [], ◌∷◌, ◌++◌, length, filter, if◌then◌else◌, None, Some, Ok, Err, option_map, vec_len, vec_capacity, IfOk, IfErr, IfSome, IsErrOf, OnOk, OnErr};
 ghost use Rattle.std.specs.Bool.{OnFalse};
 ghost use Rattle.std.specs.Option.{option_copied};
 ghost use Rattle.mctp_packet.specs.Ids.{IsTag};
@@ -16,6 +16,7 @@ ghost use Rattle.pldm_wire.specs.Responses.{response_of};
 ghost use Rattle.pldm_requester.specs.Arrivals.{got_of, is_response_to, response_arrival};
 ghost use Rattle.pldm_requester.specs.Calls.{answer_key};
 ghost use Rattle.pldm_requester.specs.Courses.{begun, is_given_up, is_sent_again, ticked};
+ghost use Rattle.pldm_requester.specs.Deadlines.{IsDeadline, IsEarliest, is_reached};
 ghost use Rattle.pldm_requester.specs.Numbering.{id_of, tag_of};
 ghost use Rattle.pldm_requester.specs.Slots.{AreSlots, OlderAreShut, held_of, most_opened, remembered_in, put_slot};
 ghost use Rattle.pldm_requester.specs.RequestProgress.{progress_in_status};
@@ -255,6 +256,15 @@ impl Requester {
         let due = tick_last(&mut self.slots, self.count, &self.timing, now);
         self.last = now;
         due
+    }
+
+    /// The moment from which on [`Requester::tick`] finds something due, exactly: a tick before it finds nothing and
+    /// changes no request. `None` where no request is open, so no tick does. Each call may change it, but for a tick
+    /// before it. It may be before [`Requester::last_moment`]: then a tick is due at once.
+    pub fn next_deadline(&self) -> Option<Moment>
+        ensures { IsDeadline (held_of self.now) result }
+    {
+        Moment::new(earliest_due(&self.slots, self.count, &self.timing)?)
     }
 
     /// Takes the bytes of a packet that came at the moment `now`, which must not be before
@@ -533,6 +543,30 @@ fn tick_last(slots: &mut [Remembered], count: u64, timing: &Timing, now: Moment)
         slot.tick(number, timing, now, &mut due);
     }
     due
+}
+
+/// The moment from which on a tick has something to do for one of the last requests, if there is one.
+fn earliest_due(slots: &[Remembered], count: u64, timing: &Timing) -> Option<u64>
+    requires { AreSlots count slots.now }
+    ensures { IsEarliest timing.now count slots.now count result }
+{
+    let mut earliest = None;
+    for number in count.saturating_sub(MAX_OPEN as u64)..count {
+        let slot = &slots[(number % MAX_REMEMBERED as u64) as usize];
+        earliest = earlier(earliest, slot.due_from(timing));
+    }
+    earliest
+}
+
+/// The earlier of two moments, where there is one.
+fn earlier(one: Option<u64>, other: Option<u64>) -> Option<u64>
+    ensures { (moment : ℕ) → is_reached result moment ≡ (is_reached one moment || is_reached other moment) }
+{
+    match (one, other) {
+        (Some(one), Some(other)) => Some(if one < other { one } else { other }),
+        (Some(one), None) => Some(one),
+        (None, other) => other,
+    }
 }
 
 /// Puts a request that is opened now in the slot of its number, or at the end, where there has to be
