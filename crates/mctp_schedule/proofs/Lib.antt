@@ -53,3 +53,5 @@ pub mod WorkedRuns
 pub mod WorkedWindows
 pub mod WorkedWorlds
 pub mod WrittenPlaces
+pub mod EachWay
+mod WorkedBothWays

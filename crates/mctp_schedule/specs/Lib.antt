@@ -28,3 +28,4 @@ pub mod Runs
 pub mod TakenReplies
 pub mod Timely
 pub mod Worlds
+pub mod BothWays

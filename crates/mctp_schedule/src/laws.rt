@@ -1,6 +1,7 @@
 //! Laws of both ends, over the definitions alone: each function does nothing and ensures its law.
 
 ghost use Rattle.pldm_responder.specs.Performing.{rules_of};
+ghost use Rattle.mctp_schedule.specs.BothWays.{EachWayIsInOrder, EachWayPerformsOnce, EachWayTakesTheOneReply};
 ghost use Rattle.mctp_schedule.specs.InWindow.{InWindowByTheRule};
 ghost use Rattle.mctp_schedule.specs.Laws.{AllIdsAreInTime, AllIdsAreNoWindow, LogIsTimely, TimelyIsTested};
 ghost use Rattle.mctp_schedule.specs.Worlds.{BothEnds};
@@ -66,4 +67,29 @@ pub fn requesters_take_the_one_reply<P: Platform>()
     pldm_wire::laws::messages_are_told_apart();
     pldm_requester::laws::one_open_on_each_tag();
     pldm_requester::laws::instance_ids_are_apart();
+}
+
+/// Of a link whose two ends both answer and ask: where moments never go back over both directions, they do not in
+/// either.
+pub fn each_way_is_in_order()
+    ensures { EachWayIsInOrder }
+{}
+
+/// Over a schedule that is timely in each direction, in each each answer that a requester took is the one reply of its
+/// own request, which its peer performed exactly once.
+pub fn each_way_takes_the_one_reply<P: Platform, Q: Platform>()
+    ensures { EachWayTakesTheOneReply P.State Q.State }
+{
+    requesters_take_the_one_reply::<P>();
+    requesters_take_the_one_reply::<Q>();
+}
+
+/// And the state of each end is that of performing once each the requests that arrived there.
+pub fn each_way_performs_once<P: Platform, Q: Platform>()
+    ensures { EachWayPerformsOnce (rules_of P.answer P.after P.sensed) (rules_of Q.answer Q.after Q.sensed) }
+{
+    logs_are_timely::<P>();
+    logs_are_timely::<Q>();
+    performs_once::<P>();
+    performs_once::<Q>();
 }
