@@ -84,7 +84,7 @@ pub fn each_way_takes_the_one_reply<P: Platform, Q: Platform>()
     requesters_take_the_one_reply::<Q>();
 }
 
-/// And the state of each end is that of performing once each the requests that arrived there.
+/// Over such a schedule the state of each end is that of performing once each the requests that arrived there.
 pub fn each_way_performs_once<P: Platform, Q: Platform>()
     ensures { EachWayPerformsOnce (rules_of P.answer P.after P.sensed) (rules_of Q.answer Q.after Q.sensed) }
 {

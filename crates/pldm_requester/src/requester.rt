@@ -259,8 +259,9 @@ impl Requester {
     }
 
     /// The moment from which on [`Requester::tick`] finds something due, exactly: a tick before it finds nothing and
-    /// changes no request. `None` where no request is open, so no tick does. Each call may change it, but for a tick
-    /// before it. It may be before [`Requester::last_moment`]: then a tick is due at once.
+    /// changes no request. `None` where there is no such moment: no request is open, or the time of each comes after
+    /// the largest moment. Each call may change it, but for a tick before it. Where it is not after
+    /// [`Requester::last_moment`], a tick is due now.
     pub fn next_deadline(&self) -> Option<Moment>
         ensures { IsDeadline (held_of self.now) result }
     {

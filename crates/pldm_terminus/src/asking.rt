@@ -19,7 +19,7 @@ pub enum AskFault {
     /// The end has no endpoint ID yet, or that of its peer.
     #[error("there is no endpoint ID to ask from")]
     NoEid,
-    /// Twice the keeping time did not pass yet since the requester began: a request of before may still come.
+    /// Twice the keeping time has not passed yet since the requester began: a request of before may still come.
     #[error("the requester began too short a time ago")]
     Resting,
     /// The requester did not open it.
