@@ -164,7 +164,9 @@ fn say_waiting(rt: &HostRuntime, talk: &Talk<'_>) {
     let span = settling_time(talk.settings.timing.keep, &talk.earlier);
     if span >= 1_000 && rt.stderr().is_terminal() {
         let seconds = span.div_ceil(1_000);
-        let _ = eprintln!(rt; "mctpctl: {seconds} s pass first: late answers to earlier requests may still come");
+        let _ = eprintln!(rt;
+            "mctpctl: {seconds} s pass first: late answers to earlier requests may still come"
+        );
     }
 }
 

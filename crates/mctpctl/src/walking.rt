@@ -91,7 +91,13 @@ fn ask_endpoint<C: Ticks, R: Read, W: Write, O: Write>(
         Err(fault) => return Err(fault),
     };
     let types = query(settings, 2, ControlCommand::GetMessageTypeSupport);
-    let types_status = match ask_query(rt, settings, "GetMessageTypeSupport", &types, conversation) {
+    let types_status = match ask_query(
+        rt,
+        settings,
+        "GetMessageTypeSupport",
+        &types,
+        conversation,
+    ) {
         Ok(status) => status,
         Err(fault) => return Err(fault),
     };

@@ -46,11 +46,7 @@ const PARTS: [&str; 2] = ["first", "next"];
 /// # Errors
 ///
 /// `Memory` where a growth was refused.
-pub fn refused_text(
-    alloc: Global,
-    found: &[u8],
-    expected: Expected,
-) -> Result<String, Memory>
+pub fn refused_text(alloc: Global, found: &[u8], expected: Expected) -> Result<String, Memory>
     ensures { IfOk result (λ text. SaysExpected found.now (string_bytes text)) }
 {
     let what = expected_text(alloc, expected)?;
