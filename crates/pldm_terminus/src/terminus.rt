@@ -78,6 +78,8 @@ impl Terminus {
     ) -> Terminus
         ensures answering { result.answering ≡ answering }
         ensures requester { IsBegunAt answering.endpoint.end.own peer timing result.asking.requester }
+        ensures peer { result.asking.peer ≡ peer }
+        ensures timing { result.asking.timing ≡ timing }
         ensures rest { result.asking.rest ≡ rest }
     {
         let asking = AskingHalf::new(alloc, answering.endpoint().own(), peer, timing, rest);
