@@ -984,8 +984,8 @@ uint8_t needleoat_requester_tick(struct needleoat_requester *requester, uint64_t
 /*
  * Whether there is a moment from which on needleoat_requester_tick finds something due, and nothing before: then it is
  * put into `deadline_ms`. So a caller may sleep until then, or until a packet comes; each other call may change it. It
- * may be a moment that has passed: then a tick is due at once. False where no request is open, or nothing is there:
- * `deadline_ms` is as it was.
+ * may be a moment that has passed: then a tick is due at once. False where there is no such moment, as where no request
+ * is open, and where nothing is there: `deadline_ms` is as it was.
  */
 bool needleoat_requester_next_deadline(struct needleoat_requester *requester, uint64_t *deadline_ms);
 
