@@ -23,7 +23,7 @@ set(_needleoat_folder "${_needleoat_prefix}/lib/needleoat/${_needleoat_processor
 if(NOT _needleoat_processor OR NOT EXISTS "${_needleoat_folder}/libneedleoat_c.a")
     set(needleoat_FOUND FALSE)
     set(needleoat_NOT_FOUND_MESSAGE
-        "there is no library for '${_needleoat_processor}': set NEEDLEOAT_PROCESSOR to a folder of ${_needleoat_prefix}/lib/needleoat")
+        "NEEDLEOAT_PROCESSOR is '${_needleoat_processor}', and no folder of ${_needleoat_prefix}/lib/needleoat")
     return()
 endif()
 

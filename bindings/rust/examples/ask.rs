@@ -1,5 +1,5 @@
-//! The requesting end: a request whose answer is lost, its retry, a second request, and one that is given up. The device
-//! is a fan that keeps one answer.
+//! The requesting end: a request whose answer is lost, its retry, a second request, and one that is given up. The
+//! device is a fan that keeps one answer.
 
 use std::fmt::{self, Write};
 

@@ -1,6 +1,6 @@
-//! A bus owner finds the endpoint 9 by control messages (DSP0236, "MCTP control protocol"), and assigns endpoint IDs to
-//! another that has none: 10, then 11. Late copies change nothing. The bytes that it has to write are those of the tables
-//! of DSP0236 and DSP0240, written by hand.
+//! A bus owner finds the endpoint 9 by control messages (DSP0236, "MCTP control protocol"), and assigns endpoint IDs
+//! to another that has none: 10, then 11. Late copies change nothing. The bytes that it has to write are those of the
+//! tables of DSP0236 and DSP0240, written by hand.
 
 use std::fmt::{self, Write};
 

@@ -1,6 +1,6 @@
-//! Passes other values through each field of each struct, and through each number that a call returns. The bytes that it
-//! has to write are those of the tables of DSP0236, DSP0240, DSP0248, DSP0237 and DSP0233, written by hand, the PECs by
-//! another program.
+//! Passes other values through each field of each struct, and through each number that a call returns. The bytes that
+//! it has to write are those of the tables of DSP0236, DSP0240, DSP0248, DSP0237 and DSP0233, written by hand, the
+//! PECs by another program.
 
 use std::fmt::{self, Write};
 
@@ -102,17 +102,8 @@ fn write_message(name: &str, read: Result<Message, Reason>, out: &mut String) ->
 }
 
 fn messages(out: &mut String) -> fmt::Result {
-    let requests = [
-        "01800002",
-        "019d3f7a0102030405",
-        "02800002",
-        "81800002",
-        "0180",
-        "",
-        "01804002",
-        "01000002",
-        "01c00002",
-    ];
+    let requests =
+        ["01800002", "019d3f7a0102030405", "02800002", "81800002", "0180", "", "01804002", "01000002", "01c00002"];
     let responses = [
         "010000020001",
         "011d025182aabbcc",
@@ -290,14 +281,7 @@ fn answers() -> [Answer; 16] {
         },
         to_platform(8, command::SET_NUMERIC_EFFECTER_VALUE),
         Answer { size: data_size::UINT8, operational: 1, value: 40, pending_value: 40, ..value },
-        Answer {
-            instance_id: 9,
-            size: data_size::SINT16,
-            operational: 1,
-            value: 300,
-            pending_value: -2,
-            ..value
-        },
+        Answer { instance_id: 9, size: data_size::SINT16, operational: 1, value: 300, pending_value: -2, ..value },
         to_platform(10, command::SET_STATE_EFFECTER_STATES),
         Answer {
             count: 8,

@@ -1,14 +1,13 @@
-//! A device with FRU data (PLDM type 4, DSP0257) beside a sensor: requests of type 4 are handed on as bytes, and answered
-//! by bytes. It is asked over a line that loses each fourth frame, in both directions; the asker sends the very same
-//! packet again until the whole answer has come. The bytes that it has to write are those of the tables of the standards,
-//! written by hand, with a CRC-32 of another program's. `examples/c/fru.c` says what the table has.
+//! A device with FRU data (PLDM type 4, DSP0257) beside a sensor: requests of type 4 are handed on as bytes, and
+//! answered by bytes. It is asked over a line that loses each fourth frame, in both directions; the asker sends the
+//! very same packet again until the whole answer has come. The bytes that it has to write are those of the tables of
+//! the standards, written by hand, with a CRC-32 of another program's. `examples/c/fru.c` says what the table has.
 
 use std::fmt::{self, Write};
 
 use needleoat::bounds::{PACKET_BYTES, RESPONSE_DATA};
 use needleoat::{
-    busy, command, packet_write, Answer, Answered, Command, Endpoint, EndpointSettings, Packets, Refusal, Request,
-    Step,
+    busy, command, packet_write, Answer, Answered, Command, Endpoint, EndpointSettings, Packets, Refusal, Request, Step,
 };
 
 mod shared;

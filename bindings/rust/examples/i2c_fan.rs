@@ -1,6 +1,6 @@
-//! The fan of fan.rs, endpoint 9, on I2C. It is a slave while it is asked, and a master when it answers. What is written
-//! to the fan's address goes into a ring of frames, which the main loop serves. The bus is a list of transfers here; the
-//! output is each frame that the fan sends, and the fault of each transfer that is no frame.
+//! The fan of fan.rs, endpoint 9, on I2C. It is a slave while it is asked, and a master when it answers. What is
+//! written to the fan's address goes into a ring of frames, which the main loop serves. The bus is a list of
+//! transfers here; the output is each frame that the fan sends, and the fault of each transfer that is no frame.
 
 use std::collections::VecDeque;
 use std::fmt::{self, Write};
@@ -87,10 +87,7 @@ fn transfers() -> [Transfer; 18] {
         transfer(20, "also by another device", "3a0f0b4501090acb018302320100ab"),
         transfer(30, "a bus owner asks for the endpoint ID", "3a0f0821010008c800800256"),
         transfer(40, "a wrong PEC", "3a0f0d21010908cc018402310100003218"),
-        Transfer {
-            collisions: 2,
-            ..transfer(50, "set to 50: two collisions", "3a0f0d21010908cc018402310100003217")
-        },
+        Transfer { collisions: 2, ..transfer(50, "set to 50: two collisions", "3a0f0d21010908cc018402310100003217") },
         Transfer { collisions: 3, ..transfer(60, "asked for: three collisions", "3a0f0b21010908cd0185023201004a") },
         transfer(70, "so once more", "3a0f0b21010908cd0185023201004a"),
         transfer(80, "no packet", "3a0f012180"),
@@ -116,8 +113,8 @@ struct Bus {
 }
 
 impl Bus {
-    /// What the controller of the fan does as it is written to. A transfer for which there is no room, or which has more
-    /// bytes than a frame, is lost: its sender repeats it.
+    /// What the controller of the fan does as it is written to. A transfer for which there is no room, or which has
+    /// more bytes than a frame, is lost: its sender repeats it.
     fn take(&mut self, transfer: &Transfer) {
         let mut bytes = from_hex(transfer.bytes);
         bytes.resize(bytes.len() + transfer.zeros, 0);

@@ -61,9 +61,9 @@ pub fn packet_count(message_length: u32) -> u32 {
 
 /// Writes packet `index` of a message, counted from 0, to the front of `out`, and returns its length in bytes, 5 to 68.
 ///
-/// `owner` is true in a request and false in a response. The result is `None`, with `out` as it was, where `destination`
-/// or `source` is not 8 to 254, where `tag` is above 7, where the message has more than 320 bytes, and where `index` is
-/// not below [`packet_count`] of its length (DSP0236).
+/// `owner` is true in a request and false in a response. The result is `None`, with `out` as it was, where
+/// `destination` or `source` is not 8 to 254, where `tag` is above 7, where the message has more than 320 bytes, and
+/// where `index` is not below [`packet_count`] of its length (DSP0236).
 pub fn packet_write(
     destination: u8,
     source: u8,
@@ -197,11 +197,11 @@ pub fn answer_check(request: &[u8], response: &[u8]) -> Result<(), AnswerFault> 
 
 /// Writes the response of an answer to the front of `out`, and returns its length in bytes, 5 to 320.
 ///
-/// The result is `None`, with `out` as it was, where `instance_id` is above 31 or `pldm_type` above 63, and, where `code`
-/// is 0, where there is no such command and where a field that its answer has is out of range: `size` above 5, a value
-/// that does not fit it, a `count` other than 1 to 8, a `length` above 303 (of versions: other than 4, 8 and so on to
-/// 32), a `transfer_flag` other than 0, 1, 2, 4 and 5. Where `code` is not 0, the response has no data, and is written
-/// for any command.
+/// The result is `None`, with `out` as it was, where `instance_id` is above 31 or `pldm_type` above 63, and, where
+/// `code` is 0, where there is no such command and where a field that its answer has is out of range: `size` above 5,
+/// a value that does not fit it, a `count` other than 1 to 8, a `length` above 303 (of versions: other than 4, 8 and
+/// so on to 32), a `transfer_flag` other than 0, 1, 2, 4 and 5. Where `code` is not 0, the response has no data, and
+/// is written for any command.
 pub fn answer_write(answer: &Answer, out: &mut [u8; MESSAGE_BYTES]) -> Option<usize> {
     // SAFETY: `out` has the bytes of a message, and is borrowed alone.
     written(unsafe { raw::needleoat_answer_write(answer, out.as_mut_ptr()) })

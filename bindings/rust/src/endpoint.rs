@@ -90,8 +90,8 @@ pub enum Step {
 
 /// An endpoint that answers, or none.
 ///
-/// It is freed on drop. One that is forgotten ([`core::mem::forget`]) leaks its memory. While a command is pending it is
-/// restarted, and never freed and made anew.
+/// It is freed on drop. One that is forgotten ([`core::mem::forget`]) leaks its memory. While a command is pending it
+/// is restarted, and never freed and made anew.
 ///
 /// ```compile_fail
 /// fn shared(_: &impl Sync) {}
@@ -119,13 +119,14 @@ impl Endpoint {
         Ok(endpoint)
     }
 
-    /// Makes an endpoint where there is none. After a reset of the processor `first_start` of the settings is false: the
-    /// busy time begins.
+    /// Makes an endpoint where there is none. After a reset of the processor `first_start` of the settings is false:
+    /// the busy time begins.
     ///
     /// # Errors
     /// [`Refusal::AlreadyThere`], else [`Refusal::OutOfRange`] of a setting, else [`Refusal::NoMemory`].
     pub fn make(&mut self, settings: &EndpointSettings, now: Moment) -> Result<(), Refusal> {
-        // SAFETY: the settings may be read, and the handle is this one's alone; it began as none and was left by a call.
+        // SAFETY: the settings may be read, and the handle is this one's alone; it began as none and was left by a
+        // call.
         unless_refused(unsafe { raw::needleoat_endpoint_new(settings, now.ms(), &mut self.handle) })?;
         self.latest = now;
         Ok(())
@@ -183,8 +184,8 @@ impl Endpoint {
         }
     }
 
-    /// Hands in the answer to the command that is pending under this handle. The packets go to `handle.source`. It takes
-    /// no memory.
+    /// Hands in the answer to the command that is pending under this handle. The packets go to `handle.source`. It
+    /// takes no memory.
     ///
     /// # Errors
     /// The first of [`Refusal::NothingThere`], [`Refusal::NotPending`], [`Refusal::NotItsAnswer`] where what is pending
@@ -199,9 +200,8 @@ impl Endpoint {
     ) -> Result<Answered, Refusal> {
         // SAFETY: the handle of the command and the answer may be read; the endpoint's and the packets are borrowed
         // alone.
-        let step = unsafe {
-            raw::needleoat_endpoint_answer(&mut self.handle, handle, answer, packets.bytes.as_mut_ptr())
-        };
+        let step =
+            unsafe { raw::needleoat_endpoint_answer(&mut self.handle, handle, answer, packets.bytes.as_mut_ptr()) };
         answered(&step, packets)
     }
 

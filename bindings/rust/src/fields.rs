@@ -14,10 +14,7 @@ pub struct SetState {
 
 impl SetState {
     /// Each field 0.
-    pub const ZERO: Self = Self {
-        set_request: 0,
-        state: 0,
-    };
+    pub const ZERO: Self = Self { set_request: 0, state: 0 };
 }
 
 impl Default for SetState {
@@ -115,12 +112,7 @@ pub struct SensorState {
 
 impl SensorState {
     /// Each field 0.
-    pub const ZERO: Self = Self {
-        operational: 0,
-        present: 0,
-        previous: 0,
-        event: 0,
-    };
+    pub const ZERO: Self = Self { operational: 0, present: 0, previous: 0, event: 0 };
 }
 
 impl Default for SensorState {
@@ -143,11 +135,7 @@ pub struct EffecterState {
 
 impl EffecterState {
     /// Each field 0.
-    pub const ZERO: Self = Self {
-        operational: 0,
-        pending: 0,
-        present: 0,
-    };
+    pub const ZERO: Self = Self { operational: 0, pending: 0, present: 0 };
 }
 
 impl Default for EffecterState {
@@ -283,11 +271,7 @@ pub struct Entity {
 
 impl Entity {
     /// Each field 0.
-    pub const ZERO: Self = Self {
-        entity_type: 0,
-        instance: 0,
-        container_id: 0,
-    };
+    pub const ZERO: Self = Self { entity_type: 0, instance: 0, container_id: 0 };
 }
 
 impl Default for Entity {
@@ -358,15 +342,8 @@ pub struct Conversion {
 
 impl Conversion {
     /// Each field 0.
-    pub const ZERO: Self = Self {
-        resolution: 0,
-        offset: 0,
-        accuracy: 0,
-        plus_tolerance: 0,
-        minus_tolerance: 0,
-        is_linear: 0,
-        size: 0,
-    };
+    pub const ZERO: Self =
+        Self { resolution: 0, offset: 0, accuracy: 0, plus_tolerance: 0, minus_tolerance: 0, is_linear: 0, size: 0 };
 }
 
 impl Default for Conversion {
@@ -448,15 +425,8 @@ pub struct EffecterRange {
 
 impl EffecterRange {
     /// Each field 0.
-    pub const ZERO: Self = Self {
-        format: 0,
-        support: 0,
-        nominal: 0,
-        normal_max: 0,
-        normal_min: 0,
-        rated_max: 0,
-        rated_min: 0,
-    };
+    pub const ZERO: Self =
+        Self { format: 0, support: 0, nominal: 0, normal_max: 0, normal_min: 0, rated_max: 0, rated_min: 0 };
 }
 
 impl Default for EffecterRange {
@@ -479,11 +449,7 @@ pub struct PossibleStates {
 
 impl PossibleStates {
     /// Each field 0.
-    pub const ZERO: Self = Self {
-        state_set: 0,
-        size: 0,
-        states: [0; 32],
-    };
+    pub const ZERO: Self = Self { state_set: 0, size: 0, states: [0; 32] };
 }
 
 impl Default for PossibleStates {
@@ -514,15 +480,8 @@ pub struct TerminusLocator {
 
 impl TerminusLocator {
     /// Each field 0.
-    pub const ZERO: Self = Self {
-        record_handle: 0,
-        change_number: 0,
-        terminus_handle: 0,
-        container_id: 0,
-        is_valid: 0,
-        tid: 0,
-        eid: 0,
-    };
+    pub const ZERO: Self =
+        Self { record_handle: 0, change_number: 0, terminus_handle: 0, container_id: 0, is_valid: 0, tid: 0, eid: 0 };
 }
 
 impl Default for TerminusLocator {
@@ -786,14 +745,8 @@ pub struct SensorName {
 
 impl SensorName {
     /// Each field 0.
-    pub const ZERO: Self = Self {
-        record_handle: 0,
-        length: 0,
-        change_number: 0,
-        terminus_handle: 0,
-        sensor_id: 0,
-        text: [0; NAME_UNITS],
-    };
+    pub const ZERO: Self =
+        Self { record_handle: 0, length: 0, change_number: 0, terminus_handle: 0, sensor_id: 0, text: [0; NAME_UNITS] };
 }
 
 impl Default for SensorName {
@@ -856,13 +809,8 @@ pub struct EntityName {
 
 impl EntityName {
     /// Each field 0.
-    pub const ZERO: Self = Self {
-        record_handle: 0,
-        length: 0,
-        change_number: 0,
-        entity: Entity::ZERO,
-        text: [0; NAME_UNITS],
-    };
+    pub const ZERO: Self =
+        Self { record_handle: 0, length: 0, change_number: 0, entity: Entity::ZERO, text: [0; NAME_UNITS] };
 }
 
 impl Default for EntityName {
@@ -955,11 +903,7 @@ pub struct CommandHandle {
 
 impl CommandHandle {
     /// Each field 0.
-    pub const ZERO: Self = Self {
-        number: 0,
-        source: 0,
-        instance_id: 0,
-    };
+    pub const ZERO: Self = Self { number: 0, source: 0, instance_id: 0 };
 }
 
 impl Default for CommandHandle {
@@ -984,12 +928,7 @@ pub struct Request {
 
 impl Request {
     /// Each field 0.
-    pub const ZERO: Self = Self {
-        pldm_type: 0,
-        command: 0,
-        length: 0,
-        data: [0; REQUEST_DATA],
-    };
+    pub const ZERO: Self = Self { pldm_type: 0, command: 0, length: 0, data: [0; REQUEST_DATA] };
 }
 
 impl Default for Request {
@@ -1016,13 +955,7 @@ pub struct RequesterSettings {
 
 impl RequesterSettings {
     /// Each field 0.
-    pub const ZERO: Self = Self {
-        own: 0,
-        device: 0,
-        tries: 0,
-        keep_ms: 0,
-        timeout_ms: 0,
-    };
+    pub const ZERO: Self = Self { own: 0, device: 0, tries: 0, keep_ms: 0, timeout_ms: 0 };
 }
 
 impl Default for RequesterSettings {

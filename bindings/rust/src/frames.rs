@@ -31,9 +31,7 @@ pub fn i2c_write(
 ) -> Option<usize> {
     let (place, length) = given(packet);
     // SAFETY: `place` has `length` bytes that may be read; `out` has the bytes of a frame, and is borrowed alone.
-    written(unsafe {
-        raw::needleoat_i2c_write(source_address, destination_address, place, length, out.as_mut_ptr())
-    })
+    written(unsafe { raw::needleoat_i2c_write(source_address, destination_address, place, length, out.as_mut_ptr()) })
 }
 
 /// Reads the bytes of a block write at the device of `own_address`, from the address byte to the PEC.
@@ -47,10 +45,7 @@ pub fn i2c_read(own_address: u8, bytes: &[u8]) -> Result<I2cFrame<'_>, I2cFault>
     if frame.fault != 0 {
         return Err(I2cFault::of(frame.fault));
     }
-    Ok(I2cFrame {
-        source_address: frame.source_address,
-        packet: part(bytes, frame.packet_start, frame.packet_length),
-    })
+    Ok(I2cFrame { source_address: frame.source_address, packet: part(bytes, frame.packet_start, frame.packet_length) })
 }
 
 /// Writes the frame of a packet to the front of `out`, and returns its length in bytes, 5 to 255.

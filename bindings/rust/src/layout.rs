@@ -3,7 +3,9 @@
 use core::mem::{offset_of, size_of};
 
 use crate::fields::*;
-use crate::raw::{Block, CommandReading, Due, Handle, I2cFrame, I3cFrame, Message, Opening, Packet, Receiving, Status, Step};
+use crate::raw::{
+    Block, CommandReading, Due, Handle, I2cFrame, I3cFrame, Message, Opening, Packet, Receiving, Status, Step,
+};
 
 /// A struct of the header: its size, and where each of its fields begins.
 macro_rules! layout {

@@ -1,9 +1,9 @@
 //! MCTP packets (DSP0236) and PLDM messages (DSP0240, DSP0248), platform data records, frames on I2C (DSP0237) and
 //! I3C (DSP0233), and both ends: safe calls over the C libraries `needleoat_wire_c` and `needleoat_c`.
 //!
-//! What the libraries promise stands in `include/needleoat.h` and `docs/C.md` of the repository. What the header asks of
-//! pointers and of handles is kept here: slices and references are what it wants pointers to be, a handle is used by one
-//! thread at a time (it is not [`Sync`]), its moments never go back ([`Moment`]), and it is freed on drop.
+//! What the libraries promise stands in `include/needleoat.h` and `docs/C.md` of the repository. What the header asks
+//! of pointers and of handles is kept here: slices and references are what it wants pointers to be, a handle is used
+//! by one thread at a time (it is not [`Sync`]), its moments never go back ([`Moment`]), and it is freed on drop.
 //!
 //! ```
 //! use needleoat::{command_read, packet_read};
@@ -14,9 +14,9 @@
 //! ```
 //!
 //! The caller still sees to these, which are no matter of memory safety. No call is made from a signal handler, or in
-//! the child of a fork of a process with threads. An endpoint is restarted and never freed and made anew while a command
-//! is pending: the numbers of a new one begin at 0. Without the feature `alloc` the program links the three functions
-//! of memory of `needleoat.h`, and they keep what the header says of them.
+//! the child of a fork of a process with threads. An endpoint is restarted and never freed and made anew while a
+//! command is pending: the numbers of a new one begin at 0. Without the feature `alloc` the program links the three
+//! functions of memory of `needleoat.h`, and they keep what the header says of them.
 #![no_std]
 #![warn(clippy::unwrap_used, clippy::expect_used, clippy::indexing_slicing, clippy::panic)]
 
@@ -48,8 +48,6 @@ pub use fields::{
 };
 pub use frames::{i2c_read, i2c_write, i3c_read, i3c_write, I2cFrame};
 pub use moment::{Clock, Moment};
-pub use numbers::{
-    bounds, busy, command, data_size, AnswerFault, I2cFault, I3cFault, Reason, RecordsFault, Refusal,
-};
+pub use numbers::{bounds, busy, command, data_size, AnswerFault, I2cFault, I3cFault, Reason, RecordsFault, Refusal};
 pub use records::{records_answer, Record};
 pub use requester::{Due, Opening, Receiving, Requester, Status};

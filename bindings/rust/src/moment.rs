@@ -39,8 +39,8 @@ impl Clock {
 
     /// The moment at which the counter has this value. It is never before that of an earlier call.
     pub const fn moment(&mut self, ticks: u32) -> Moment {
-        let passed = ticks.wrapping_sub(self.0.0 as u32) as u64;
-        if let Some(moment) = Moment::from_ms(self.0.0.saturating_add(passed)) {
+        let passed = ticks.wrapping_sub(self.0 .0 as u32) as u64;
+        if let Some(moment) = Moment::from_ms(self.0 .0.saturating_add(passed)) {
             self.0 = moment;
         }
         self.0

@@ -1,8 +1,8 @@
 //! The calls of `needleoat.h` as they are there. The other files keep what the header asks of their pointers.
 
 use crate::fields::{
-    Answer, Command, CommandHandle, EffecterName, EndpointSettings, EntityName, NumericEffecter, NumericSensor, Request,
-    RequesterSettings, SensorName, StateEffecter, StateSensor, TerminusLocator,
+    Answer, Command, CommandHandle, EffecterName, EndpointSettings, EntityName, NumericEffecter, NumericSensor,
+    Request, RequesterSettings, SensorName, StateEffecter, StateSensor, TerminusLocator,
 };
 use crate::numbers::bounds::{PACKETS, PACKET_BYTES};
 

@@ -52,14 +52,14 @@ records! {
 
 /// Answers GetPDRRepositoryInfo and GetPDR for the records that stand one after another in `records`.
 ///
-/// A record is sent in parts of at most `request_count` bytes and 303. `update_time` and `oem_update_time` are times of
-/// GetPDRRepositoryInfo (timestamp104 of DSP0240). The answer may be a refusal, as of a record that is not there. All of
-/// the records are looked at in each call with one of the two commands.
+/// A record is sent in parts of at most `request_count` bytes and 303. `update_time` and `oem_update_time` are times
+/// of GetPDRRepositoryInfo (timestamp104 of DSP0240). The answer may be a refusal, as of a record that is not there.
+/// All of the records are looked at in each call with one of the two commands.
 ///
 /// # Errors
-/// Of another command [`RecordsFault::OtherCommand`], whatever the bytes are; else [`RecordsFault::Malformed`] where the
-/// bytes are anything but whole records, each with the header version 1 and a handle that is not 0 and no other's, and
-/// at most 1,000.
+/// Of another command [`RecordsFault::OtherCommand`], whatever the bytes are; else [`RecordsFault::Malformed`] where
+/// the bytes are anything but whole records, each with the header version 1 and a handle that is not 0 and no
+/// other's, and at most 1,000.
 pub fn records_answer(
     records: &[u8],
     update_time: &[u8; 13],

@@ -71,8 +71,8 @@ pub enum Status {
 
 /// A requester at one endpoint that asks one device, or none.
 ///
-/// It is freed on drop. One that is forgotten ([`core::mem::forget`]) leaks its memory. While a request is open it is not
-/// freed and made anew.
+/// It is freed on drop. One that is forgotten ([`core::mem::forget`]) leaks its memory. While a request is open it is
+/// not freed and made anew.
 ///
 /// ```compile_fail
 /// fn shared(_: &impl Sync) {}
@@ -107,7 +107,8 @@ impl Requester {
     /// [`Refusal::AlreadyThere`], else [`Refusal::OutOfRange`] where a setting is out of its range, `own` and `device`
     /// are the same, or `tries` times `timeout_ms` is above `keep_ms`; else [`Refusal::NoMemory`].
     pub fn make(&mut self, settings: &RequesterSettings) -> Result<(), Refusal> {
-        // SAFETY: the settings may be read, and the handle is this one's alone; it began as none and was left by a call.
+        // SAFETY: the settings may be read, and the handle is this one's alone; it began as none and was left by a
+        // call.
         unless_refused(unsafe { raw::needleoat_requester_new(settings, &mut self.handle) })?;
         self.latest = Moment::ZERO;
         Ok(())

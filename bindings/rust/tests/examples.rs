@@ -2,7 +2,7 @@
 
 mod written;
 
-use written::{EXAMPLES, Example};
+use written::{Example, EXAMPLES};
 
 fn check(example: &Example) {
     let mut out = String::new();

@@ -8,7 +8,7 @@ use std::alloc::{GlobalAlloc, Layout, System};
 use std::ptr::null_mut;
 use std::sync::atomic::{AtomicIsize, AtomicUsize, Ordering};
 
-use written::{EXAMPLES, Example};
+use written::{Example, EXAMPLES};
 
 const LIBRARY_ALIGN: usize = 16;
 /// Which makes no second try, as it has no memory to be refused or tries each call once.

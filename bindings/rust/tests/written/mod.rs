@@ -1,4 +1,5 @@
 //! The examples, and what each of them has to write.
+#![allow(clippy::duplicate_mod)] // each example has its own `shared`
 
 use std::fmt;
 
