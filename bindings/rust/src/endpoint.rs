@@ -93,7 +93,7 @@ pub enum Step {
 /// It is freed on drop. One that is forgotten ([`core::mem::forget`]) leaks its memory. While a command is pending it
 /// is restarted, and never freed and made anew.
 ///
-/// ```compile_fail
+/// ```compile_fail,E0277
 /// fn shared(_: &impl Sync) {}
 /// shared(&needleoat::Endpoint::none());
 /// ```

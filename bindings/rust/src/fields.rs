@@ -731,7 +731,7 @@ impl Default for StateEffecter {
 pub struct SensorName {
     /// Its handle, not 0, and another one than that of each other record.
     pub record_handle: u32,
-    /// How many code units of `text` there are, at most 140.
+    /// How many code units of `text` there are, at most 127.
     pub length: u32,
     /// Its change number.
     pub change_number: u16,
@@ -761,7 +761,7 @@ impl Default for SensorName {
 pub struct EffecterName {
     /// Its handle, not 0, and another one than that of each other record.
     pub record_handle: u32,
-    /// How many code units of `text` there are, at most 140.
+    /// How many code units of `text` there are, at most 127.
     pub length: u32,
     /// Its change number.
     pub change_number: u16,
@@ -797,7 +797,7 @@ impl Default for EffecterName {
 pub struct EntityName {
     /// Its handle, not 0, and another one than that of each other record.
     pub record_handle: u32,
-    /// How many code units of `text` there are, at most 140.
+    /// How many code units of `text` there are, at most 127.
     pub length: u32,
     /// Its change number.
     pub change_number: u16,
@@ -828,7 +828,7 @@ pub struct EndpointSettings {
     pub own: u8,
     /// True only where this endpoint never ran before.
     pub first_start: bool,
-    /// How long an answer is kept for copies, 1 to 60,000.
+    /// How long an answer is kept for copies, 1 to 60,000 milliseconds.
     pub keep_ms: u32,
     /// How many other endpoints have room for answers at most, `window` for each.
     pub sources: u32,
@@ -922,7 +922,7 @@ pub struct Request {
     pub command: u8,
     /// How many bytes of data it has, at most 316.
     pub length: u32,
-    /// Its data: the first of these. What follows is as it was.
+    /// Its data: the first of these, as [`Request::bytes`] has them.
     pub data: [u8; REQUEST_DATA],
 }
 
@@ -947,9 +947,9 @@ pub struct RequesterSettings {
     pub device: u8,
     /// How often a request is sent at most, 1 to 8.
     pub tries: u8,
-    /// How long the device keeps an answer for copies, 1 to 60,000.
+    /// How long the device keeps an answer for copies, 1 to 60,000 milliseconds.
     pub keep_ms: u32,
-    /// How long after it was sent a request is sent again, 1 or more.
+    /// How long after it was sent a request is sent again, 1 millisecond or more.
     pub timeout_ms: u32,
 }
 

@@ -15,7 +15,7 @@ pub trait Record {
     /// The result is `None`, with `out` as it was, where the record has more bytes than `out`, or a field is out of
     /// range: `record_handle` 0, a flag that is neither 0 nor 1, a data size above 5, a range format above 6, a number
     /// that does not fit its data size or its format, a `count` other than 1 to 8, a `size` of possible states other
-    /// than 1 to 32, a `length` above 140, a code unit of a name that is 0.
+    /// than 1 to 32, a `length` above 127, a code unit of a name that is 0.
     fn record_write(&self, out: &mut [u8]) -> Option<usize>;
 }
 

@@ -74,7 +74,7 @@ pub enum Status {
 /// It is freed on drop. One that is forgotten ([`core::mem::forget`]) leaks its memory. While a request is open it is
 /// not freed and made anew.
 ///
-/// ```compile_fail
+/// ```compile_fail,E0277
 /// fn shared(_: &impl Sync) {}
 /// shared(&needleoat::Requester::none());
 /// ```

@@ -1,4 +1,5 @@
-//! Each function of `include/needleoat.h` is declared and has a safe call, and each struct lies as the header asserts.
+//! Each function of `include/needleoat.h` is declared and has a safe call, each struct lies as the header asserts,
+//! and the numbers are those of the header.
 
 use std::collections::BTreeSet;
 
@@ -6,6 +7,7 @@ const HEADER: &str = include_str!("../../../include/needleoat.h");
 const RAW: &str = include_str!("../src/raw.rs");
 const MEMORY: &str = include_str!("../src/memory.rs");
 const LAYOUT: &str = include_str!("../src/layout.rs");
+const NUMBERS: &str = include_str!("../src/numbers.rs");
 
 /// The safe call for each function of the header. A path that is not there does not compile.
 macro_rules! calls {
@@ -132,37 +134,87 @@ fn each_struct_lies_as_the_header_asserts() {
     assert!(facts > 200, "{facts} facts");
 }
 
-/// The numbers of the header's enums: a line `NEEDLEOAT_NAME = NUMBER` of its reasons and refusals.
+/// The part of a text between two others.
+fn between<'a>(text: &'a str, front: &str, end: &str) -> &'a str {
+    let (_, after) = text.split_once(front).expect("its front");
+    after.split_once(end).expect("its end").0
+}
+
+/// The enums of the header, the crate's name of each, and what their names begin with.
+const ENUMS: [(&str, &str, &str); 6] = [
+    ("needleoat_reason", "Reason", "NEEDLEOAT_"),
+    ("needleoat_answer_fault", "AnswerFault", "NEEDLEOAT_"),
+    ("needleoat_records_fault", "RecordsFault", "NEEDLEOAT_RECORDS_"),
+    ("needleoat_i2c_fault", "I2cFault", "NEEDLEOAT_I2C_"),
+    ("needleoat_i3c_fault", "I3cFault", "NEEDLEOAT_I3C_"),
+    ("needleoat_refusal", "Refusal", "NEEDLEOAT_"),
+];
+
 #[test]
 fn the_numbers_are_those_of_the_header() {
-    use needleoat::{AnswerFault, I2cFault, I3cFault, Reason, RecordsFault, Refusal};
-    let in_header = |name: &str| {
-        let (_, after) = HEADER.split_once(&format!("    {name} = ")).expect("a number");
-        let digits = after.split(|c: char| !c.is_ascii_hexdigit() && c != 'x').next().expect("digits");
-        match digits.strip_prefix("0x") {
-            Some(digits) => u8::from_str_radix(digits, 16).expect("a number"),
-            None => digits.parse().expect("a number"),
+    let mut numbers = 0;
+    for (name, in_crate, front) in ENUMS {
+        let known = between(NUMBERS, &format!("    {in_crate} {{\n"), "\n    }");
+        for line in between(HEADER, &format!("enum {name} {{\n"), "};").lines() {
+            let Some((name, after)) = line.trim().split_once(" = ") else { continue };
+            let number: String = after.chars().take_while(char::is_ascii_digit).collect();
+            let name = in_rust(&name.strip_prefix(front).expect("its front").to_lowercase());
+            assert!(known.contains(&format!(" {name} = {number},")), "{in_crate}: {name} = {number}");
+            numbers += 1;
         }
-    };
-    let numbers = [
-        ("NEEDLEOAT_SHORT", Reason::Short.number()),
-        ("NEEDLEOAT_BAD_TAG", Reason::BadTag.number()),
-        ("NEEDLEOAT_WRONG_UNIT", Reason::WrongUnit.number()),
-        ("NEEDLEOAT_NOT_READY", Reason::NotReady.number()),
-        ("NEEDLEOAT_NOT_AN_ENDPOINT", Reason::NotAnEndpoint.number()),
-        ("NEEDLEOAT_NO_REQUEST", AnswerFault::NoRequest.number()),
-        ("NEEDLEOAT_WRONG_VALUE", AnswerFault::WrongValue.number()),
-        ("NEEDLEOAT_RECORDS_MALFORMED", RecordsFault::Malformed.number()),
-        ("NEEDLEOAT_I2C_WRONG_PEC", I2cFault::WrongPec.number()),
-        ("NEEDLEOAT_I3C_WRONG_PEC", I3cFault::WrongPec.number()),
-        ("NEEDLEOAT_NO_MEMORY", Refusal::NoMemory.number()),
-        ("NEEDLEOAT_OUT_OF_RANGE", Refusal::OutOfRange.number()),
-        ("NEEDLEOAT_NOT_PENDING", Refusal::NotPending.number()),
-        ("NEEDLEOAT_TOO_MANY_OPEN_MESSAGES", Refusal::TooManyOpenMessages.number()),
-        ("NEEDLEOAT_GET_PDR", needleoat::command::GET_PDR),
-        ("NEEDLEOAT_SINT32", needleoat::data_size::SINT32),
-    ];
-    for (name, number) in numbers {
-        assert_eq!(number, in_header(name), "{name}");
     }
+    assert_eq!(numbers, 21 + 7 + 2 + 7 + 3 + 15);
+}
+
+/// The constants of the crate, and those of the header.
+#[test]
+fn the_constants_are_those_of_the_header() {
+    use needleoat::{bounds, busy, command, data_size};
+    let constants = [
+        ("PACKET_BYTES", bounds::PACKET_BYTES),
+        ("PACKETS", bounds::PACKETS),
+        ("MESSAGE_BYTES", bounds::MESSAGE_BYTES),
+        ("REQUEST_BYTES", bounds::REQUEST_BYTES),
+        ("REQUEST_DATA", bounds::REQUEST_DATA),
+        ("RESPONSE_DATA", bounds::RESPONSE_DATA),
+        ("PART_BYTES", bounds::PART_BYTES),
+        ("STATES", bounds::STATES),
+        ("RECORD_BYTES", bounds::RECORD_BYTES),
+        ("NAME_UNITS", bounds::NAME_UNITS),
+        ("I2C_FRAME_BYTES", bounds::I2C_FRAME_BYTES),
+        ("I3C_FRAME_BYTES", bounds::I3C_FRAME_BYTES),
+        ("BASE", command::BASE.into()),
+        ("SET_TID", command::SET_TID.into()),
+        ("GET_TID", command::GET_TID.into()),
+        ("GET_PLDM_VERSION", command::GET_PLDM_VERSION.into()),
+        ("GET_PLDM_TYPES", command::GET_PLDM_TYPES.into()),
+        ("GET_PLDM_COMMANDS", command::GET_PLDM_COMMANDS.into()),
+        ("PLATFORM", command::PLATFORM.into()),
+        ("GET_SENSOR_READING", command::GET_SENSOR_READING.into()),
+        ("GET_STATE_SENSOR_READINGS", command::GET_STATE_SENSOR_READINGS.into()),
+        ("SET_NUMERIC_EFFECTER_VALUE", command::SET_NUMERIC_EFFECTER_VALUE.into()),
+        ("GET_NUMERIC_EFFECTER_VALUE", command::GET_NUMERIC_EFFECTER_VALUE.into()),
+        ("SET_STATE_EFFECTER_STATES", command::SET_STATE_EFFECTER_STATES.into()),
+        ("GET_STATE_EFFECTER_STATES", command::GET_STATE_EFFECTER_STATES.into()),
+        ("GET_PDR_REPOSITORY_INFO", command::GET_PDR_REPOSITORY_INFO.into()),
+        ("GET_PDR", command::GET_PDR.into()),
+        ("UINT8", data_size::UINT8.into()),
+        ("SINT8", data_size::SINT8.into()),
+        ("UINT16", data_size::UINT16.into()),
+        ("SINT16", data_size::SINT16.into()),
+        ("UINT32", data_size::UINT32.into()),
+        ("SINT32", data_size::SINT32.into()),
+        ("BUSY_ALL", busy::ALL as usize),
+        ("BUSY_SETS", busy::SETS as usize),
+    ];
+    for (name, number) in constants {
+        let digits = between(HEADER, &format!("    NEEDLEOAT_{name} = "), "\n");
+        let digits: String = digits.chars().take_while(|c| c.is_ascii_hexdigit() || *c == 'x').collect();
+        let in_header = match digits.strip_prefix("0x") {
+            Some(digits) => usize::from_str_radix(digits, 16),
+            None => digits.parse(),
+        };
+        assert_eq!(in_header, Ok(number), "{name}");
+    }
+    assert_eq!(between(HEADER, "enum { NEEDLEOAT_REAL32 = ", " }"), data_size::REAL32.to_string());
 }
