@@ -1,12 +1,12 @@
 //! Each growth of memory is refused in turn: an example that tries again writes what it has to, and nothing leaks.
 //!
-//! The blocks of the library are the only ones here that are aligned to 16 bytes.
+//! The blocks of the library are the only ones of the test's thread that are aligned to 16 bytes.
 
 mod written;
 
 use std::alloc::{GlobalAlloc, Layout, System};
+use std::cell::Cell;
 use std::ptr::null_mut;
-use std::sync::atomic::{AtomicIsize, AtomicUsize, Ordering};
 
 use written::{Example, EXAMPLES};
 
@@ -14,22 +14,32 @@ const LIBRARY_ALIGN: usize = 16;
 /// Which makes no second try, as it has no memory to be refused or tries each call once.
 const WITHOUT: [&str; 3] = ["codecs", "records", "fields"];
 
-static GROWTHS: AtomicUsize = AtomicUsize::new(0);
-static REFUSED: AtomicUsize = AtomicUsize::new(0);
-static BLOCKS: AtomicIsize = AtomicIsize::new(0);
+thread_local! {
+    static IS_COUNTED: Cell<bool> = const { Cell::new(false) };
+    static GROWTHS: Cell<usize> = const { Cell::new(0) };
+    static REFUSED: Cell<usize> = const { Cell::new(0) };
+    static BLOCKS: Cell<isize> = const { Cell::new(0) };
+}
 
 struct Refusing;
 
 impl Refusing {
+    fn is_of_library(layout: Layout) -> bool {
+        layout.align() == LIBRARY_ALIGN && IS_COUNTED.try_with(Cell::get).unwrap_or(false)
+    }
+
     /// Counts a growth of the library, and says whether it is the one to be refused.
     fn refuses(layout: Layout) -> bool {
-        let of_library = layout.align() == LIBRARY_ALIGN;
-        of_library && GROWTHS.fetch_add(1, Ordering::Relaxed) + 1 == REFUSED.load(Ordering::Relaxed)
+        if !Self::is_of_library(layout) {
+            return false;
+        }
+        GROWTHS.set(GROWTHS.get() + 1);
+        GROWTHS.get() == REFUSED.get()
     }
 
     fn count(layout: Layout, change: isize) {
-        if layout.align() == LIBRARY_ALIGN {
-            BLOCKS.fetch_add(change, Ordering::Relaxed);
+        if Self::is_of_library(layout) {
+            BLOCKS.set(BLOCKS.get() + change);
         }
     }
 }
@@ -65,13 +75,17 @@ static ALLOCATOR: Refusing = Refusing;
 
 /// Runs an example with one of its growths refused, or none for 0. Returns how many growths there were.
 fn run(example: &Example, refused: usize) -> usize {
-    GROWTHS.store(0, Ordering::Relaxed);
-    REFUSED.store(refused, Ordering::Relaxed);
+    GROWTHS.set(0);
+    REFUSED.set(refused);
+    BLOCKS.set(0);
     let mut out = String::new();
-    assert!((example.run)(example.input, &mut out).is_ok(), "{}", example.name);
+    IS_COUNTED.set(true);
+    let ran = (example.run)(example.input, &mut out);
+    IS_COUNTED.set(false);
+    assert!(ran.is_ok(), "{}", example.name);
     assert_eq!(out, example.expected, "{} with growth {refused} refused", example.name);
-    assert_eq!(BLOCKS.load(Ordering::Relaxed), 0, "{} leaks with growth {refused} refused", example.name);
-    GROWTHS.load(Ordering::Relaxed)
+    assert_eq!(BLOCKS.get(), 0, "{} leaks with growth {refused} refused", example.name);
+    GROWTHS.get()
 }
 
 #[test]
