@@ -13,6 +13,9 @@ PACKAGES = [
 MERGED = ["bin", "lib", "lib32", "lib64", "libx32", "sbin"]
 LEFT_OUT = re.compile(r"/usr/share/(doc|man|info|locale|lintian|bash-completion)/.")
 PATH = "/usr/sbin:/usr/bin:/sbin:/bin"
+SECONDS = 600  # that a command may take
+COPY_SECONDS = 60  # that copying the packages may take
+FETCH_SECONDS = 3600  # that fetching them may take
 
 # An installed package: its name with the architecture, each set of packages of which one has to be there, what it
 # stands for, and its stanza in the list of packages.
@@ -25,8 +28,7 @@ class Missing(Exception):
 
 
 def run(words, **how):
-    how.setdefault("stdout", subprocess.PIPE)
-    return subprocess.run(words, stderr=subprocess.STDOUT, timeout=600, **how)
+    return subprocess.run(words, **{"stdout": subprocess.PIPE, "stderr": subprocess.STDOUT, "timeout": SECONDS, **how})
 
 
 def names_in(text):
@@ -83,8 +85,15 @@ def copy_files(packages, root):
     unpacked = subprocess.Popen(["tar", "-C", root, "--keep-directory-symlink", "-xpf", "-"], stdin=packed.stdout)
     packed.stdin.write(names)
     packed.stdin.close()
-    packed.wait()
-    if unpacked.wait() != 0:
+    try:
+        status = unpacked.wait(COPY_SECONDS)
+    except subprocess.TimeoutExpired as late:
+        unpacked.kill()
+        raise Missing(f"packages that are copied in {COPY_SECONDS} seconds") from late
+    finally:
+        packed.kill()
+        packed.wait()
+    if status != 0:
         raise Missing("a tar that copies the files of packages")
 
 
@@ -130,7 +139,7 @@ def downloaded(root):
     with open("/etc/os-release") as file:
         suite = re.search(r"^VERSION_CODENAME=(\w+)", file.read(), re.M)[1]
     words = ["--variant=minbase", f"--include={','.join(PACKAGES)}", "--format=directory", suite, root]
-    made = run(["mmdebstrap", *words])
+    made = run(["mmdebstrap", *words], timeout=FETCH_SECONDS)
     if made.returncode != 0:
         raise Missing(f"a mirror of Debian ({made.stdout.decode(errors='replace')[-200:]})")
 
