@@ -7,7 +7,14 @@ from support.examples import ROOT
 from support.frames import frame
 from support.programs import run
 
-TAKEN = ("mctpctl", "prove", "install", "crates.txt", "HANDLES", "contrib/proved.sh", "docs/mctpctl.1", "examples/device.toml")
+TAKEN = (
+    *("mctpctl", "prove", "install", "crates.txt", "HANDLES", "contrib/proved.sh", "docs/mctpctl.1"),
+    *("contrib/packaging/put", "contrib/packaging/trees.py", "contrib/packaging/completions.py", "examples/device.toml"),
+)
+PUT = (
+    *("bin/mctpctl", "share/man/man1/mctpctl.1", "share/bash-completion/completions/mctpctl"),
+    *("share/zsh/site-functions/_mctpctl", "share/fish/vendor_completions.d/mctpctl.fish"),
+)
 STAMP = 'root=$1; . "$root/contrib/proved.sh"; printf "%s\\n%s\\n" "$(content_of_sources)" "$(times_of_sources)" >"$stamp"'
 SOURCE = "crates/mctpctl/src/main.rt"
 QUESTION, ANSWER = bytes.fromhex("010908c801800002"), bytes.fromhex("010809c0010000020001")
@@ -99,11 +106,12 @@ def stamps(rows, top):
 
 
 def installs(rows, top):
-    """The program and its page are put below a prefix, and taken away."""
+    """The program, its page and its completions are put below a prefix, and taken away."""
     prefix = os.path.join(top, "prefix")
-    put = [os.path.join(prefix, name) for name in ("bin/mctpctl", "share/man/man1/mctpctl.1")]
+    put = [os.path.join(prefix, name) for name in PUT]
     ran = call([os.path.join(top, "install"), prefix])
-    rows.check("installed", ran.returncode == 0 and all(map(os.path.isfile, put)) and ran.stdout.count("installed ") == 2, repr(ran))
+    well = ran.returncode == 0 and all(map(os.path.isfile, put)) and ran.stdout.count("installed ") == len(put)
+    rows.check("installed", well, repr(ran))
     ran = call([put[0], "--help"])
     rows.check("the installed program runs", ran.returncode == 0 and "Usage: mctpctl" in ran.stdout, repr(ran))
     ran = call([os.path.join(top, "install"), "--remove", prefix])

@@ -119,13 +119,13 @@ def jobs():
     return min(4, len(os.sched_getaffinity(0)))
 
 
-def module_of(crate, is_proved):
+def module_of(crate, is_proved, library=None):
     """Proves a static library, and returns its LLVM module for aarch64 as text. Where the crates below it do not stand
-    proved in `crates/*/out`, `rt check` proves them first."""
+    proved in `crates/*/out`, `rt check` proves them first. The library for aarch64 is left in the named file."""
     if not is_proved:
         run(["rt", "check"], cwd=f"{ROOT}/crates/{crate}")
     with tempfile.TemporaryDirectory() as room:
-        build(crate, AARCH64, keeping_tools(room), f"{room}/library.a")
+        build(crate, AARCH64, keeping_tools(room), library or f"{room}/library.a")
         with open(f"{room}/words", encoding="utf-8") as file:
             check_words(file.read().split("\n")[:-1])
         as_text = ["-S", "-emit-llvm", "-x", "ir", f"{room}/module.bc", "-O0", "-Xclang", "-disable-llvm-passes"]

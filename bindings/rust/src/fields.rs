@@ -1,0 +1,972 @@
+//! The structs of the header that go in and come out as they are there.
+
+use crate::numbers::bounds::{NAME_UNITS, PART_BYTES, REQUEST_DATA, STATES};
+
+/// One field of SetStateEffecterStates (DSP0248).
+#[repr(C)]
+#[derive(Clone, Copy, Debug, PartialEq, Eq, Hash)]
+pub struct SetState {
+    /// 0 noChange, 1 requestSet; any byte is read and written.
+    pub set_request: u8,
+    /// The state.
+    pub state: u8,
+}
+
+impl SetState {
+    /// Each field 0.
+    pub const ZERO: Self = Self { set_request: 0, state: 0 };
+}
+
+impl Default for SetState {
+    fn default() -> Self {
+        Self::ZERO
+    }
+}
+
+/// A request's instance ID and its command (DSP0240, DSP0248). Beside each field stand the commands that have it.
+/// Those that a command does not have mean nothing after reading, and are not looked at in writing.
+#[repr(C)]
+#[derive(Clone, Copy, Debug, PartialEq, Eq, Hash)]
+pub struct Command {
+    /// Each command: 0 to 31.
+    pub instance_id: u8,
+    /// Each command.
+    pub pldm_type: u8,
+    /// Each command.
+    pub command: u8,
+    /// SetTID: the terminus ID, any byte.
+    pub tid: u8,
+    /// GetPLDMVersion, GetPLDMCommands: the PLDM type asked about.
+    pub asked_type: u8,
+    /// GetPLDMVersion, GetPDR: 0 next part, 1 first part, any byte.
+    pub transfer_operation_flag: u8,
+    /// GetSensorReading, GetStateSensorReadings: any byte.
+    pub rearm: u8,
+    /// SetNumericEffecterValue: the data size of `value`.
+    pub size: u8,
+    /// SetStateEffecterStates: how many of `sets`, 1 to 8.
+    pub count: u8,
+    /// GetSensorReading, GetStateSensorReadings: the sensor ID.
+    pub sensor: u16,
+    /// The four commands of effecters: the effecter ID.
+    pub effecter: u16,
+    /// GetPDR: the most bytes asked for.
+    pub request_count: u16,
+    /// GetPDR: 0 for the first part.
+    pub record_change_number: u16,
+    /// GetPLDMVersion, GetPDR: which part, as the last answer had it.
+    pub data_transfer_handle: u32,
+    /// GetPDR: 0 asks for the first record.
+    pub record_handle: u32,
+    /// SetNumericEffecterValue: it fits `size`.
+    pub value: i64,
+    /// GetPLDMCommands.
+    pub version: [u8; 4],
+    /// SetStateEffecterStates: the first `count`.
+    pub sets: [SetState; STATES],
+}
+
+impl Command {
+    /// Each field 0.
+    pub const ZERO: Self = Self {
+        instance_id: 0,
+        pldm_type: 0,
+        command: 0,
+        tid: 0,
+        asked_type: 0,
+        transfer_operation_flag: 0,
+        rearm: 0,
+        size: 0,
+        count: 0,
+        sensor: 0,
+        effecter: 0,
+        request_count: 0,
+        record_change_number: 0,
+        data_transfer_handle: 0,
+        record_handle: 0,
+        value: 0,
+        version: [0; 4],
+        sets: [SetState::ZERO; STATES],
+    };
+}
+
+impl Default for Command {
+    fn default() -> Self {
+        Self::ZERO
+    }
+}
+
+/// One field of GetStateSensorReadings' answer (DSP0248).
+#[repr(C)]
+#[derive(Clone, Copy, Debug, PartialEq, Eq, Hash)]
+pub struct SensorState {
+    /// The sensor's operational state.
+    pub operational: u8,
+    /// The state that it reports now.
+    pub present: u8,
+    /// The state before that one.
+    pub previous: u8,
+    /// The state of its latest event.
+    pub event: u8,
+}
+
+impl SensorState {
+    /// Each field 0.
+    pub const ZERO: Self = Self { operational: 0, present: 0, previous: 0, event: 0 };
+}
+
+impl Default for SensorState {
+    fn default() -> Self {
+        Self::ZERO
+    }
+}
+
+/// One field of GetStateEffecterStates' answer (DSP0248).
+#[repr(C)]
+#[derive(Clone, Copy, Debug, PartialEq, Eq, Hash)]
+pub struct EffecterState {
+    /// The effecter's operational state.
+    pub operational: u8,
+    /// The state that it is going to.
+    pub pending: u8,
+    /// The state that it is in.
+    pub present: u8,
+}
+
+impl EffecterState {
+    /// Each field 0.
+    pub const ZERO: Self = Self { operational: 0, pending: 0, present: 0 };
+}
+
+impl Default for EffecterState {
+    fn default() -> Self {
+        Self::ZERO
+    }
+}
+
+/// A response's instance ID, the command that it answers, and the answer (DSP0240, DSP0248). Beside each field stand
+/// the commands whose answers have it; an answer whose `code` is not 0 has none of them. Those that an answer does
+/// not have mean nothing after reading, and are not looked at in writing.
+#[repr(C)]
+#[derive(Clone, Copy, Debug, PartialEq, Eq, Hash)]
+pub struct Answer {
+    /// Each command: 0 to 31.
+    pub instance_id: u8,
+    /// Each command: of the command.
+    pub pldm_type: u8,
+    /// Each command.
+    pub command: u8,
+    /// Each command: the completion code, 0 for success.
+    pub code: u8,
+    /// GetTID.
+    pub tid: u8,
+    /// GetPDR: 0 start, 1 middle (2 is one too), 4 end, 5 whole.
+    pub transfer_flag: u8,
+    /// GetPDR with flag 4: the whole record's checksum.
+    pub transfer_crc: u8,
+    /// GetSensorReading, GetNumericEffecterValue: the data size.
+    pub size: u8,
+    /// The same two: the operational state.
+    pub operational: u8,
+    /// GetSensorReading: which of its events are enabled.
+    pub sensor_event_message_enable: u8,
+    /// GetSensorReading: the state that it reports now.
+    pub present: u8,
+    /// GetSensorReading: the state before that one.
+    pub previous: u8,
+    /// GetSensorReading: the state of its latest event.
+    pub event: u8,
+    /// GetStateSensorReadings, GetStateEffecterStates: 1 to 8.
+    pub count: u8,
+    /// GetPDRRepositoryInfo: 0 available.
+    pub repository_state: u8,
+    /// GetPDRRepositoryInfo: how long a transfer may pause, a code.
+    pub timeout: u8,
+    /// GetPDR: the record after this one, or 0.
+    pub next_record_handle: u32,
+    /// GetPLDMVersion, GetPDR: which part is next, or 0.
+    pub next_data_transfer_handle: u32,
+    /// GetPDRRepositoryInfo.
+    pub record_count: u32,
+    /// GetPDRRepositoryInfo: in bytes.
+    pub repository_size: u32,
+    /// GetPDRRepositoryInfo: in bytes.
+    pub largest_record_size: u32,
+    /// GetSensorReading: the reading; GetNumericEffecterValue: present.
+    pub value: i64,
+    /// GetNumericEffecterValue: the value that it is going to.
+    pub pending_value: i64,
+    /// GetPLDMVersion, GetPDR: how many of `bytes` there are.
+    pub length: u32,
+    /// GetStateSensorReadings.
+    pub sensor_states: [SensorState; STATES],
+    /// GetStateEffecterStates.
+    pub effecter_states: [EffecterState; STATES],
+    /// GetPLDMTypes: type t is bit t mod 8 of byte t / 8.
+    pub types: [u8; 8],
+    /// GetPLDMCommands: command c is bit c mod 8 of byte c / 8.
+    pub commands: [u8; 32],
+    /// GetPDRRepositoryInfo: when it was last changed.
+    pub update_time: [u8; 13],
+    /// GetPDRRepositoryInfo: when its OEM records were last changed.
+    pub oem_update_time: [u8; 13],
+    /// GetPLDMVersion: 4 to 32, four a version; GetPDR: the part.
+    pub bytes: [u8; PART_BYTES],
+}
+
+impl Answer {
+    /// Each field 0.
+    pub const ZERO: Self = Self {
+        instance_id: 0,
+        pldm_type: 0,
+        command: 0,
+        code: 0,
+        tid: 0,
+        transfer_flag: 0,
+        transfer_crc: 0,
+        size: 0,
+        operational: 0,
+        sensor_event_message_enable: 0,
+        present: 0,
+        previous: 0,
+        event: 0,
+        count: 0,
+        repository_state: 0,
+        timeout: 0,
+        next_record_handle: 0,
+        next_data_transfer_handle: 0,
+        record_count: 0,
+        repository_size: 0,
+        largest_record_size: 0,
+        value: 0,
+        pending_value: 0,
+        length: 0,
+        sensor_states: [SensorState::ZERO; STATES],
+        effecter_states: [EffecterState::ZERO; STATES],
+        types: [0; 8],
+        commands: [0; 32],
+        update_time: [0; 13],
+        oem_update_time: [0; 13],
+        bytes: [0; PART_BYTES],
+    };
+}
+
+impl Default for Answer {
+    fn default() -> Self {
+        Self::ZERO
+    }
+}
+
+/// The entity that a record belongs to (DSP0249).
+#[repr(C)]
+#[derive(Clone, Copy, Debug, PartialEq, Eq, Hash)]
+pub struct Entity {
+    /// A number of DSP0249: 64 a system board.
+    pub entity_type: u16,
+    /// Which of its type it is.
+    pub instance: u16,
+    /// The entity that contains it.
+    pub container_id: u16,
+}
+
+impl Entity {
+    /// Each field 0.
+    pub const ZERO: Self = Self { entity_type: 0, instance: 0, container_id: 0 };
+}
+
+impl Default for Entity {
+    fn default() -> Self {
+        Self::ZERO
+    }
+}
+
+/// What a numeric sensor measures in, or a numeric effecter is set in (DSP0248).
+#[repr(C)]
+#[derive(Clone, Copy, Debug, PartialEq, Eq, Hash)]
+pub struct Units {
+    /// A number of DSP0248: 2 degrees C, 5 volts, 19 RPM, 65 percent.
+    pub base_unit: u8,
+    /// The power of ten that values are multiplied by.
+    pub unit_modifier: i8,
+    /// The time that the unit is taken per: 0 none.
+    pub rate_unit: u8,
+    /// The OEM unit that stands for the base unit, or 0.
+    pub base_oem_unit_handle: u8,
+    /// A second unit, by the same list: 0 none.
+    pub auxiliary_unit: u8,
+    /// The power of ten of the second unit.
+    pub auxiliary_unit_modifier: i8,
+    /// The time that the second unit is taken per.
+    pub auxiliary_rate_unit: u8,
+}
+
+impl Units {
+    /// Each field 0.
+    pub const ZERO: Self = Self {
+        base_unit: 0,
+        unit_modifier: 0,
+        rate_unit: 0,
+        base_oem_unit_handle: 0,
+        auxiliary_unit: 0,
+        auxiliary_unit_modifier: 0,
+        auxiliary_rate_unit: 0,
+    };
+}
+
+impl Default for Units {
+    fn default() -> Self {
+        Self::ZERO
+    }
+}
+
+/// How numbers become values: (number * resolution + offset) * 10 ^ unit_modifier (DSP0248). A real32 is given as its
+/// bits, [`f32::to_bits`].
+#[repr(C)]
+#[derive(Clone, Copy, Debug, PartialEq, Eq, Hash)]
+pub struct Conversion {
+    /// A real32: 1.0 is 0x3f800000.
+    pub resolution: u32,
+    /// A real32.
+    pub offset: u32,
+    /// In hundredths of a percent.
+    pub accuracy: u16,
+    /// How far a value may be above what is measured, in steps.
+    pub plus_tolerance: u8,
+    /// How far it may be below.
+    pub minus_tolerance: u8,
+    /// Whether values go with numbers by that rule: 0 no, 1 yes.
+    pub is_linear: u8,
+    /// The data size of the numbers: `UINT8` to `SINT32`.
+    pub size: u8,
+}
+
+impl Conversion {
+    /// Each field 0.
+    pub const ZERO: Self =
+        Self { resolution: 0, offset: 0, accuracy: 0, plus_tolerance: 0, minus_tolerance: 0, is_linear: 0, size: 0 };
+}
+
+impl Default for Conversion {
+    fn default() -> Self {
+        Self::ZERO
+    }
+}
+
+/// The normal range and the thresholds of a numeric sensor (DSP0248).
+#[repr(C)]
+#[derive(Clone, Copy, Debug, PartialEq, Eq, Hash)]
+pub struct SensorRange {
+    /// `UINT8` to `SINT32`, or `REAL32`.
+    pub format: u8,
+    /// Bit 0 nominal, 1 normal max, 2 normal min, 3 critical high, 4 low, 5 fatal high, 6 low.
+    pub support: u8,
+    /// The nominal value.
+    pub nominal: i64,
+    /// The most that is normal.
+    pub normal_max: i64,
+    /// The least that is normal.
+    pub normal_min: i64,
+    /// The upper warning threshold.
+    pub warning_high: i64,
+    /// The lower warning threshold.
+    pub warning_low: i64,
+    /// The upper critical threshold.
+    pub critical_high: i64,
+    /// The lower critical threshold.
+    pub critical_low: i64,
+    /// The upper fatal threshold.
+    pub fatal_high: i64,
+    /// The lower fatal threshold.
+    pub fatal_low: i64,
+}
+
+impl SensorRange {
+    /// Each field 0.
+    pub const ZERO: Self = Self {
+        format: 0,
+        support: 0,
+        nominal: 0,
+        normal_max: 0,
+        normal_min: 0,
+        warning_high: 0,
+        warning_low: 0,
+        critical_high: 0,
+        critical_low: 0,
+        fatal_high: 0,
+        fatal_low: 0,
+    };
+}
+
+impl Default for SensorRange {
+    fn default() -> Self {
+        Self::ZERO
+    }
+}
+
+/// The normal and the rated range of a numeric effecter (DSP0248).
+#[repr(C)]
+#[derive(Clone, Copy, Debug, PartialEq, Eq, Hash)]
+pub struct EffecterRange {
+    /// `UINT8` to `SINT32`, or `REAL32`.
+    pub format: u8,
+    /// Bit 0 nominal, 1 normal max, 2 normal min, 3 rated max, 4 rated min.
+    pub support: u8,
+    /// The nominal value.
+    pub nominal: i64,
+    /// The most that is normal.
+    pub normal_max: i64,
+    /// The least that is normal.
+    pub normal_min: i64,
+    /// The most that it is rated for.
+    pub rated_max: i64,
+    /// The least that it is rated for.
+    pub rated_min: i64,
+}
+
+impl EffecterRange {
+    /// Each field 0.
+    pub const ZERO: Self =
+        Self { format: 0, support: 0, nominal: 0, normal_max: 0, normal_min: 0, rated_max: 0, rated_min: 0 };
+}
+
+impl Default for EffecterRange {
+    fn default() -> Self {
+        Self::ZERO
+    }
+}
+
+/// The states that one sensor or effecter of a composite one can have (DSP0248).
+#[repr(C)]
+#[derive(Clone, Copy, Debug, PartialEq, Eq, Hash)]
+pub struct PossibleStates {
+    /// A number of DSP0249.
+    pub state_set: u16,
+    /// How many of `states` there are, 1 to 32.
+    pub size: u8,
+    /// State s is bit s mod 8 of byte s / 8.
+    pub states: [u8; 32],
+}
+
+impl PossibleStates {
+    /// Each field 0.
+    pub const ZERO: Self = Self { state_set: 0, size: 0, states: [0; 32] };
+}
+
+impl Default for PossibleStates {
+    fn default() -> Self {
+        Self::ZERO
+    }
+}
+
+/// Where a terminus is: at an MCTP endpoint ID (DSP0248, terminus locator PDR, type 1).
+#[repr(C)]
+#[derive(Clone, Copy, Debug, PartialEq, Eq, Hash)]
+pub struct TerminusLocator {
+    /// Of each record: its handle, not 0, and another one than that of each other record.
+    pub record_handle: u32,
+    /// Of each record: its change number.
+    pub change_number: u16,
+    /// Of each record of a sensor or an effecter: the same as here.
+    pub terminus_handle: u16,
+    /// The entity that contains the terminus.
+    pub container_id: u16,
+    /// 0 no, 1 yes.
+    pub is_valid: u8,
+    /// The terminus ID.
+    pub tid: u8,
+    /// The endpoint ID.
+    pub eid: u8,
+}
+
+impl TerminusLocator {
+    /// Each field 0.
+    pub const ZERO: Self =
+        Self { record_handle: 0, change_number: 0, terminus_handle: 0, container_id: 0, is_valid: 0, tid: 0, eid: 0 };
+}
+
+impl Default for TerminusLocator {
+    fn default() -> Self {
+        Self::ZERO
+    }
+}
+
+/// A numeric sensor (DSP0248, PDR type 2).
+#[repr(C)]
+#[derive(Clone, Copy, Debug, PartialEq, Eq, Hash)]
+pub struct NumericSensor {
+    /// Its handle, not 0, and another one than that of each other record.
+    pub record_handle: u32,
+    /// Its change number.
+    pub change_number: u16,
+    /// The terminus, as the record of its place has it.
+    pub terminus_handle: u16,
+    /// The ID by which the sensor is asked.
+    pub sensor_id: u16,
+    /// What it measures.
+    pub entity: Entity,
+    /// How it is made ready: 0 it needs nothing.
+    pub init: u8,
+    /// Whether a record of its name goes with it: 0 no, 1 yes.
+    pub has_auxiliary_names: u8,
+    /// What the two units make (DSP0248, "rel"): 0 the first divided by the second, 1 multiplied by it. Any byte is
+    /// written.
+    pub rel: u8,
+    /// The OEM unit that stands for the second unit, or 0.
+    pub auxiliary_oem_unit_handle: u8,
+    /// Bit 0 upper warning, 1 critical, 2 fatal, 3 to 5 the lower ones.
+    pub supported_thresholds: u8,
+    /// When these are lost.
+    pub threshold_and_hysteresis_volatility: u8,
+    /// What its numbers are in.
+    pub units: Units,
+    /// How its numbers become values.
+    pub conversion: Conversion,
+    /// A real32, the longest time of a change of state in seconds.
+    pub state_transition_interval: u32,
+    /// A real32, the time between two readings in seconds.
+    pub update_interval: u32,
+    /// The hysteresis, of the data size of `conversion`.
+    pub hysteresis: i64,
+    /// The greatest number that it reads.
+    pub max_readable: i64,
+    /// The least number that it reads.
+    pub min_readable: i64,
+    /// Its ranges.
+    pub range: SensorRange,
+}
+
+impl NumericSensor {
+    /// Each field 0.
+    pub const ZERO: Self = Self {
+        record_handle: 0,
+        change_number: 0,
+        terminus_handle: 0,
+        sensor_id: 0,
+        entity: Entity::ZERO,
+        init: 0,
+        has_auxiliary_names: 0,
+        rel: 0,
+        auxiliary_oem_unit_handle: 0,
+        supported_thresholds: 0,
+        threshold_and_hysteresis_volatility: 0,
+        units: Units::ZERO,
+        conversion: Conversion::ZERO,
+        state_transition_interval: 0,
+        update_interval: 0,
+        hysteresis: 0,
+        max_readable: 0,
+        min_readable: 0,
+        range: SensorRange::ZERO,
+    };
+}
+
+impl Default for NumericSensor {
+    fn default() -> Self {
+        Self::ZERO
+    }
+}
+
+/// A numeric effecter (DSP0248, PDR type 9).
+#[repr(C)]
+#[derive(Clone, Copy, Debug, PartialEq, Eq, Hash)]
+pub struct NumericEffecter {
+    /// Its handle, not 0, and another one than that of each other record.
+    pub record_handle: u32,
+    /// Its change number.
+    pub change_number: u16,
+    /// The terminus, as the record of its place has it.
+    pub terminus_handle: u16,
+    /// The ID by which the effecter is asked.
+    pub effecter_id: u16,
+    /// What it sets.
+    pub entity: Entity,
+    /// What setting it means, a number of DSP0248, or 0.
+    pub semantic_id: u16,
+    /// How it is made ready: 0 it needs nothing.
+    pub init: u8,
+    /// Whether a record of its name goes with it: 0 no, 1 yes.
+    pub has_auxiliary_names: u8,
+    /// The OEM unit that stands for the second unit, or 0.
+    pub auxiliary_oem_unit_handle: u8,
+    /// What its numbers are in.
+    pub units: Units,
+    /// How its numbers become values.
+    pub conversion: Conversion,
+    /// A real32, the longest time of a change of state in seconds.
+    pub state_transition_interval: u32,
+    /// A real32, the longest time of a change of value in seconds.
+    pub transition_interval: u32,
+    /// The greatest number that it is set to.
+    pub max_settable: i64,
+    /// The least number that it is set to.
+    pub min_settable: i64,
+    /// Its ranges.
+    pub range: EffecterRange,
+}
+
+impl NumericEffecter {
+    /// Each field 0.
+    pub const ZERO: Self = Self {
+        record_handle: 0,
+        change_number: 0,
+        terminus_handle: 0,
+        effecter_id: 0,
+        entity: Entity::ZERO,
+        semantic_id: 0,
+        init: 0,
+        has_auxiliary_names: 0,
+        auxiliary_oem_unit_handle: 0,
+        units: Units::ZERO,
+        conversion: Conversion::ZERO,
+        state_transition_interval: 0,
+        transition_interval: 0,
+        max_settable: 0,
+        min_settable: 0,
+        range: EffecterRange::ZERO,
+    };
+}
+
+impl Default for NumericEffecter {
+    fn default() -> Self {
+        Self::ZERO
+    }
+}
+
+/// A state sensor (DSP0248, PDR type 4).
+#[repr(C)]
+#[derive(Clone, Copy, Debug, PartialEq, Eq, Hash)]
+pub struct StateSensor {
+    /// Its handle, not 0, and another one than that of each other record.
+    pub record_handle: u32,
+    /// Its change number.
+    pub change_number: u16,
+    /// The terminus, as the record of its place has it.
+    pub terminus_handle: u16,
+    /// The ID by which the sensor is asked.
+    pub sensor_id: u16,
+    /// What it reports on.
+    pub entity: Entity,
+    /// How it is made ready: 0 it needs nothing.
+    pub init: u8,
+    /// Whether a record of its name goes with it: 0 no, 1 yes.
+    pub has_auxiliary_names: u8,
+    /// How many of `sets` there are, 1 to 8.
+    pub count: u8,
+    /// Its sensors or effecters: the first `count`.
+    pub sets: [PossibleStates; STATES],
+}
+
+impl StateSensor {
+    /// Each field 0.
+    pub const ZERO: Self = Self {
+        record_handle: 0,
+        change_number: 0,
+        terminus_handle: 0,
+        sensor_id: 0,
+        entity: Entity::ZERO,
+        init: 0,
+        has_auxiliary_names: 0,
+        count: 0,
+        sets: [PossibleStates::ZERO; STATES],
+    };
+}
+
+impl Default for StateSensor {
+    fn default() -> Self {
+        Self::ZERO
+    }
+}
+
+/// A state effecter (DSP0248, PDR type 11).
+#[repr(C)]
+#[derive(Clone, Copy, Debug, PartialEq, Eq, Hash)]
+pub struct StateEffecter {
+    /// Its handle, not 0, and another one than that of each other record.
+    pub record_handle: u32,
+    /// Its change number.
+    pub change_number: u16,
+    /// The terminus, as the record of its place has it.
+    pub terminus_handle: u16,
+    /// The ID by which the effecter is asked.
+    pub effecter_id: u16,
+    /// What it sets.
+    pub entity: Entity,
+    /// What setting it means, a number of DSP0248, or 0.
+    pub semantic_id: u16,
+    /// How it is made ready: 0 it needs nothing.
+    pub init: u8,
+    /// Whether a record that describes it goes with it: 0 no, 1 yes.
+    pub has_description: u8,
+    /// How many of `sets` there are, 1 to 8.
+    pub count: u8,
+    /// Its sensors or effecters: the first `count`.
+    pub sets: [PossibleStates; STATES],
+}
+
+impl StateEffecter {
+    /// Each field 0.
+    pub const ZERO: Self = Self {
+        record_handle: 0,
+        change_number: 0,
+        terminus_handle: 0,
+        effecter_id: 0,
+        entity: Entity::ZERO,
+        semantic_id: 0,
+        init: 0,
+        has_description: 0,
+        count: 0,
+        sets: [PossibleStates::ZERO; STATES],
+    };
+}
+
+impl Default for StateEffecter {
+    fn default() -> Self {
+        Self::ZERO
+    }
+}
+
+/// The name of a sensor (DSP0248, PDR type 6): one, in English, of a sensor that is not composite.
+#[repr(C)]
+#[derive(Clone, Copy, Debug, PartialEq, Eq, Hash)]
+pub struct SensorName {
+    /// Its handle, not 0, and another one than that of each other record.
+    pub record_handle: u32,
+    /// How many code units of `text` there are, at most 127.
+    pub length: u32,
+    /// Its change number.
+    pub change_number: u16,
+    /// The terminus, as the record of its place has it.
+    pub terminus_handle: u16,
+    /// The ID by which the sensor is asked.
+    pub sensor_id: u16,
+    /// UTF-16; none of them is 0.
+    pub text: [u16; NAME_UNITS],
+}
+
+impl SensorName {
+    /// Each field 0.
+    pub const ZERO: Self =
+        Self { record_handle: 0, length: 0, change_number: 0, terminus_handle: 0, sensor_id: 0, text: [0; NAME_UNITS] };
+}
+
+impl Default for SensorName {
+    fn default() -> Self {
+        Self::ZERO
+    }
+}
+
+/// The name of an effecter (DSP0248, PDR type 13): one, in English, of an effecter that is not composite.
+#[repr(C)]
+#[derive(Clone, Copy, Debug, PartialEq, Eq, Hash)]
+pub struct EffecterName {
+    /// Its handle, not 0, and another one than that of each other record.
+    pub record_handle: u32,
+    /// How many code units of `text` there are, at most 127.
+    pub length: u32,
+    /// Its change number.
+    pub change_number: u16,
+    /// The terminus, as the record of its place has it.
+    pub terminus_handle: u16,
+    /// The ID by which the effecter is asked.
+    pub effecter_id: u16,
+    /// UTF-16; none of them is 0.
+    pub text: [u16; NAME_UNITS],
+}
+
+impl EffecterName {
+    /// Each field 0.
+    pub const ZERO: Self = Self {
+        record_handle: 0,
+        length: 0,
+        change_number: 0,
+        terminus_handle: 0,
+        effecter_id: 0,
+        text: [0; NAME_UNITS],
+    };
+}
+
+impl Default for EffecterName {
+    fn default() -> Self {
+        Self::ZERO
+    }
+}
+
+/// The name of an entity (DSP0248, PDR type 16): one, in English.
+#[repr(C)]
+#[derive(Clone, Copy, Debug, PartialEq, Eq, Hash)]
+pub struct EntityName {
+    /// Its handle, not 0, and another one than that of each other record.
+    pub record_handle: u32,
+    /// How many code units of `text` there are, at most 127.
+    pub length: u32,
+    /// Its change number.
+    pub change_number: u16,
+    /// Of the overall container, the name of the terminus.
+    pub entity: Entity,
+    /// UTF-16; none of them is 0.
+    pub text: [u16; NAME_UNITS],
+}
+
+impl EntityName {
+    /// Each field 0.
+    pub const ZERO: Self =
+        Self { record_handle: 0, length: 0, change_number: 0, entity: Entity::ZERO, text: [0; NAME_UNITS] };
+}
+
+impl Default for EntityName {
+    fn default() -> Self {
+        Self::ZERO
+    }
+}
+
+/// What an endpoint is made with. `docs/C.md` says which window is right for which requester.
+#[repr(C)]
+#[derive(Clone, Copy, Debug, PartialEq, Eq, Hash)]
+pub struct EndpointSettings {
+    /// Its endpoint ID, 8 to 254, which is static. Where `assigned`, the static one that Reset goes back to, or 0:
+    /// there is none.
+    pub own: u8,
+    /// True only where this endpoint never ran before.
+    pub first_start: bool,
+    /// How long an answer is kept for copies, 1 to 60,000 milliseconds.
+    pub keep_ms: u32,
+    /// How many other endpoints have room for answers at most, `window` for each.
+    pub sources: u32,
+    /// How many messages of several packets have begun and not ended at most; for one more the oldest ends.
+    pub open_messages: u32,
+    /// How many commands are pending at most; with 0 none is ever performed.
+    pub pending_commands: u32,
+    /// For how many instance IDs of a source answers are kept, 1 to 32; 0 stands for 32.
+    pub window: u32,
+    /// Enum needleoat_busy.
+    pub busy: u32,
+    /// Whether of PLDM types 0 and 2 the requests are handed on as bytes whose command is none of this profile; else
+    /// they are refused with code 0x05.
+    pub unknown_commands: bool,
+    /// The PLDM types of which each request is handed on as bytes: bit t stands for type t. Those of the others are
+    /// refused with code 0x20; bits 0 and 2 stand for nothing.
+    pub pldm_types: u64,
+    /// Whether control messages are answered (DSP0236, message type 0), as what follows says; else they are dropped.
+    pub answers_control: bool,
+    /// Whether a bus owner assigns the endpoint ID: there is none at first.
+    pub assigned: bool,
+    /// The UUID, in the order of RFC 4122.
+    pub uuid: [u8; 16],
+    /// The version of the base specification that it keeps to, as on the wire.
+    pub base_version: [u8; 4],
+    /// The version of the control protocol that it keeps to.
+    pub control_version: [u8; 4],
+    /// The version of PLDM over MCTP (DSP0241) that it keeps to.
+    pub pldm_version: [u8; 4],
+}
+
+impl EndpointSettings {
+    /// Each field 0.
+    pub const ZERO: Self = Self {
+        own: 0,
+        first_start: false,
+        keep_ms: 0,
+        sources: 0,
+        open_messages: 0,
+        pending_commands: 0,
+        window: 0,
+        busy: 0,
+        unknown_commands: false,
+        pldm_types: 0,
+        answers_control: false,
+        assigned: false,
+        uuid: [0; 16],
+        base_version: [0; 4],
+        control_version: [0; 4],
+        pldm_version: [0; 4],
+    };
+}
+
+impl Default for EndpointSettings {
+    fn default() -> Self {
+        Self::ZERO
+    }
+}
+
+/// The handle of a pending command: its number, and whose request it is of. Keep it as it is until the answer, one
+/// for each command.
+#[repr(C)]
+#[derive(Clone, Copy, Debug, PartialEq, Eq, Hash)]
+pub struct CommandHandle {
+    /// How many commands were handed out before.
+    pub number: u64,
+    /// Where the request came from, 8 to 254: the packets of its answer go there.
+    pub source: u8,
+    /// The request's, 0 to 31.
+    pub instance_id: u8,
+}
+
+impl CommandHandle {
+    /// Each field 0.
+    pub const ZERO: Self = Self { number: 0, source: 0, instance_id: 0 };
+}
+
+impl Default for CommandHandle {
+    fn default() -> Self {
+        Self::ZERO
+    }
+}
+
+/// A request that is pending, as bytes.
+#[repr(C)]
+#[derive(Clone, Copy, Debug, PartialEq, Eq, Hash)]
+pub struct Request {
+    /// 0 to 63.
+    pub pldm_type: u8,
+    /// Its command's number in that type.
+    pub command: u8,
+    /// How many bytes of data it has, at most 316.
+    pub length: u32,
+    /// Its data: the first of these, as [`Request::bytes`] has them.
+    pub data: [u8; REQUEST_DATA],
+}
+
+impl Request {
+    /// Each field 0.
+    pub const ZERO: Self = Self { pldm_type: 0, command: 0, length: 0, data: [0; REQUEST_DATA] };
+}
+
+impl Default for Request {
+    fn default() -> Self {
+        Self::ZERO
+    }
+}
+
+/// What a requester is made with.
+#[repr(C)]
+#[derive(Clone, Copy, Debug, PartialEq, Eq, Hash)]
+pub struct RequesterSettings {
+    /// Its endpoint ID, 8 to 254.
+    pub own: u8,
+    /// That of the device, 8 to 254.
+    pub device: u8,
+    /// How often a request is sent at most, 1 to 8.
+    pub tries: u8,
+    /// How long the device keeps an answer for copies, 1 to 60,000 milliseconds.
+    pub keep_ms: u32,
+    /// How long after it was sent a request is sent again, 1 millisecond or more.
+    pub timeout_ms: u32,
+}
+
+impl RequesterSettings {
+    /// Each field 0.
+    pub const ZERO: Self = Self { own: 0, device: 0, tries: 0, keep_ms: 0, timeout_ms: 0 };
+}
+
+impl Default for RequesterSettings {
+    fn default() -> Self {
+        Self::ZERO
+    }
+}
+
+impl Request {
+    /// The data of the request.
+    pub fn bytes(&self) -> &[u8] {
+        self.data.get(..self.length as usize).unwrap_or(&self.data)
+    }
+}
