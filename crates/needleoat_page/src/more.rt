@@ -1,0 +1,56 @@
+//! What `--explain` adds: the fault in more words, and warnings.
+
+ghost use Rattle.std.specs.Prelude.{IfOk};
+ghost use Rattle.needleoat_page.specs.Explanations.{Explains, Tells, fault_of};
+
+use mctp_packet::Memory;
+use mctpctl_explain::{Subcommand, explain, warnings};
+use mctpctl_input::EngineFault;
+use std::alloc::Global;
+
+/// A line of what more there is to say of the fault, if there is, and a line of each warning, as `mctpctl --explain`
+/// prints them behind its own name.
+pub fn more_text(
+    alloc: Global,
+    subject: Subcommand,
+    input: &[u8],
+    ended: &Result<(), EngineFault>,
+) -> Result<Vec<u8>, Memory>
+    ensures { IfOk result (λ more. Tells (fault_of ended.now) more.items) }
+{
+    let mut more = explained_line(alloc, subject, input, ended)?;
+    let warned = warned_lines(alloc, subject, input)?;
+    more.extend_from_slice(&warned)?;
+    Ok(more)
+}
+
+/// The line of what more there is to say of the fault; nothing where there is none.
+fn explained_line(
+    alloc: Global,
+    subject: Subcommand,
+    input: &[u8],
+    ended: &Result<(), EngineFault>,
+) -> Result<Vec<u8>, Memory>
+    ensures { IfOk result (λ line. Explains (fault_of ended.now) line.items) }
+{
+    let mut line = Vec::new(alloc);
+    if let Err(fault) = ended {
+        let text = explain(alloc, subject, input, fault)?;
+        if !text.is_empty() {
+            line.extend_from_slice(text.as_bytes())?;
+            line.push(b'\n')?;
+        }
+    }
+    Ok(line)
+}
+
+/// A line of each warning.
+fn warned_lines(alloc: Global, subject: Subcommand, input: &[u8]) -> Result<Vec<u8>, Memory> {
+    let mut lines = Vec::new(alloc);
+    for warning in warnings(alloc, subject, input)?.iter() {
+        lines.extend_from_slice(b"warning: ")?;
+        lines.extend_from_slice(warning.as_bytes())?;
+        lines.push(b'\n')?;
+    }
+    Ok(lines)
+}
