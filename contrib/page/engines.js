@@ -71,8 +71,8 @@ const engines = (() => {
         }
     }
 
-    // The number of the first line of a schedule that made a run untimely, the first with 0: that of the shortest run of
-    // its lines that is not timely. Nothing where none of them is.
+    // The number of the line of a schedule that made its run untimely, counted from 0: the last one of the least lines
+    // whose run is not timely. Nothing where it is timely.
     function untimelyLine(module, front, lines) {
         const isUntimely = (count) => {
             const ended = call(module, 'run', front + lines.slice(0, count).join('\n'));

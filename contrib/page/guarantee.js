@@ -1,11 +1,13 @@
 'use strict';
 // What the guarantee says of a run, in words.
 const guarantees = (() => {
-    const WHOLE = `The guarantee holds: the device did what performing each request that arrived once does, in the order
-of their first arrivals, and each answer that a requester took is the one to its own request.`;
+    const WHOLE = [
+        'The guarantee holds: the device did what performing each request that arrived once does, in the order of',
+        'their first arrivals, and each answer that a requester took is the one to its own request.',
+    ].join(' ');
     const NOTHING = 'The guarantee says nothing of this run.';
 
-    const ofTimely = () => `timely: yes. ${WHOLE.replaceAll('\n', ' ')}`;
+    const ofTimely = () => `timely: yes. ${WHOLE}`;
 
     // Why a packet made a run untimely: one of the three ways in which a run can be.
     function reasonOf(run, step) {

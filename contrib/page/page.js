@@ -11,7 +11,7 @@
     const tabs = [...document.querySelectorAll('[role=tab]')];
     const TITLES = {
         show: ['Capture: on each line a moment in milliseconds, and bytes in hex', 'The packets, and what they say'],
-        answer: ['Capture: on each line a moment in milliseconds, and a packet in hex', 'What the device does with each'],
+        answer: ['Capture: on each line a moment in milliseconds, and a packet in hex', 'What the device does'],
         run: ['Schedule: the requesters, and what happens on the bus', 'What came of each step, and the end'],
     };
     const NO_MEMORY = 'There was not enough memory for this run. Nothing of what you typed is lost.';
@@ -59,8 +59,9 @@
     function fill(description, text) {
         device.text = description;
         lines.text = text;
-        at('lines').scrollTop = 0;
+        for (const id of ['lines', 'device']) at(id).scrollTop = 0;
         undone.length = 0;
+        at('undo').disabled = true;
         closeLarge();
     }
 
@@ -240,6 +241,7 @@
     function undo() {
         const old = undone.pop();
         if (old === undefined) return;
+        at('undo').disabled = undone.length === 0;
         lines.text = old;
         show();
     }

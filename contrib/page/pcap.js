@@ -10,8 +10,8 @@ const pcaps = (() => {
     // By link type: the length of the cooked header, and where the protocol number stands in it.
     const COOKED = { 113: [16, 14], 276: [20, 0] };
 
-    // The first four bytes of a pcap file, highest first: whether its numbers have the lowest byte first, and the unit of
-    // its times in nanoseconds.
+    // The first four bytes of a pcap file, highest first: whether its numbers have the lowest byte first, and the unit
+    // of its times in nanoseconds.
     const MAGICS = {
         0xd4c3b2a1: [true, MICROSECOND],
         0xa1b2c3d4: [false, MICROSECOND],

@@ -21,7 +21,7 @@ const pictures = (() => {
         #groups = [];
         #chosen;
 
-        // Where it is drawn, the controls of a packet by their names, the text of the schedule, and what takes a change.
+        // Where it is drawn, the controls of a packet by their names, and what takes a change of the schedule's text.
         constructor(place, panel, change) {
             this.#place = place;
             this.#panel = panel;

@@ -1,6 +1,6 @@
 'use strict';
-// Changes of a schedule's text. Lines are counted from 0. Each change gives the new text, and where the line stands that
-// was changed.
+// Changes of a schedule's text. Lines are counted from 0. Each change gives the new text, and where the line stands
+// that was changed.
 const schedules = (() => {
     const STEP = /^( *at +)([0-9]{1,16})(.*)$/s;
 

@@ -1,8 +1,8 @@
 """The text of an LLVM module for aarch64, for wasm64: both have addresses of 64 bits, so that no pointer changes.
 
-The layout and the triple are those of wasm64 then, attributes that say of aarch64 are left out, and the one instruction
-of aarch64 that a module calls by its own name is written in general ones. Whatever else is of one processor alone, or is
-not known here, stops the build.
+The layout and the triple are those of wasm64 then, attributes that say of aarch64 are left out, and the one
+instruction of aarch64 that a module calls by its own name is written in general ones. Whatever else is of one
+processor alone, or is not known here, stops the build.
 """
 
 import re

@@ -161,7 +161,8 @@ class Page:
             time.sleep(0.01)
 
     def size(self, width, height, is_phone=False):
-        self.call("Emulation.setDeviceMetricsOverride", width=width, height=height, deviceScaleFactor=1, mobile=is_phone)
+        box = {"width": width, "height": height, "deviceScaleFactor": 1}
+        self.call("Emulation.setDeviceMetricsOverride", mobile=is_phone, **box)
 
     def picture(self, path):
         """Writes a picture of the whole page."""
@@ -192,8 +193,8 @@ class Page:
     def place(self, expression):
         """The middle of an element, which is scrolled into view first."""
         script = f"(() => {{ const it = {expression}; it.scrollIntoView({{ block: 'center' }});"
-        script += " const box = it.getBoundingClientRect(); return [box.x + box.width / 2, box.y + box.height / 2]; })()"
-        return self.value(script)
+        script += " const box = it.getBoundingClientRect();"
+        return self.value(f"{script} return [box.x + box.width / 2, box.y + box.height / 2]; }})()")
 
     def mouse(self, kind, x, y):
         self.call("Input.dispatchMouseEvent", type=kind, x=x, y=y, button="left", buttons=1, clickCount=1)

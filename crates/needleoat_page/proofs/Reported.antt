@@ -1,13 +1,59 @@
 -- What a call reports.
-use Rattle.std.proofs.Common.{◌≡◌, ◌≤◌, ℕ, List, [], Option, None, Some, Result, Ok, Err, IfErr}
+use Rattle.std.proofs.Common.{◌≡◌, ◌≤◌, ◌++◌, ℕ, List, [], Option, None, Some, Result, Ok, Err, inl, inr, ap, sym, subst, ◌∙◌, arith}
+use Rattle.std.specs.Prelude.{IfErr}
 use Rattle.mctpctl_engines.specs.LineRuns.{Written, Writes}
+use Rattle.mctpctl_explain.specs.Reasons.{ExplainsDevice, ExplainsLine}
 use Rattle.mctpctl_input.specs.OutsideFaults.{IsOutside}
 use Rattle.mctpctl_input.specs.declared.faults.EngineFault.{EngineFault}
-use Rattle.needleoat_page.specs.Endings.{Answers, Reports, written_of}
-use Rattle.needleoat_page.specs.Explanations.{Tells, fault_of}
+use Rattle.needleoat_page.specs.Endings.{Answers, Reports, writing}
+use Rattle.needleoat_page.specs.Explanations.{Explains, IsLineOf, Tells, fault_of}
 use Rattle.needleoat_page.specs.declared.ending.Ending.{Ending}
 use Rattle.needleoat_page.specs.declared.ending.TheConstants.{NOT_RUN, REFUSED}
 
+-- the line of an explanation
+pub explains : (fault : EngineFault) (text line : List ℕ) → IsLineOf text line → ExplainsDevice fault text → ExplainsLine fault text
+    → Explains (Some fault) line
+explains fault text line is device of_line = (text, is, device, of_line)
+
+-- the explanation, and then the warnings
+pub tells : (fault : Option EngineFault) (line warned more : List ℕ) → more ≡ line ++ warned → Explains fault line → Tells fault more
+tells fault line warned more is explained = (line, warned, is, explained)
+
 -- nothing is said of a run that could not be done
 pub not_run : (written : Written) (old new : List ℕ) (ending : Ending) → ending.status ≡ NOT_RUN → Reports written old new ending
-not_run written old new ending is = ([], grind arith, grind arith)
+not_run written old new ending is = (
+  [],
+  record {
+    done = λ e. absurd (omega (arith, is, e));
+    refused = λ e. absurd (omega (arith, is, e));
+    lengths = λ e. absurd (omega (arith, is, e));
+    all = λ e. absurd (omega (arith, is, e));
+    needs = λ e. absurd (omega (arith, is, e));
+  },
+  λ e. absurd (omega (arith, is, e)),
+)
+
+-- two parts of what is written are the whole
+same : (written : Written) (text : List ℕ) (fault : Option EngineFault) → written.fault ≡ fault → text ≡ written.text
+    → writing text fault ≡ written
+same written text fault of_fault of_text =
+    ap (λ (t : List ℕ). writing t fault) of_text ∙ ap (λ (f : Option EngineFault). writing written.text f) (sym of_fault)
+
+-- what is said of one that was
+pub reported : (written : Written) (text more old new : List ℕ) (ended : Result Unit EngineFault) (ending : Ending)
+    → Writes written (Some []) (Some text) ended
+    → Answers (writing text (fault_of ended)) more old new ending
+    → IfErr ended (λ fault. IsOutside fault → ending.status ≡ NOT_RUN)
+    → Tells (fault_of ended) more
+    → Reports written old new ending
+reported written text more old new (Ok done) ending (none, appended) answers outside tells = (
+  more,
+  subst (λ (w : Written). Answers w more old new ending) (same written text None none appended) answers,
+  λ low. subst (λ (f : Option EngineFault). Tells f more) (sym none) tells,
+)
+reported written text more old new (Err fault) ending (inl out) answers outside tells = not_run written old new ending (outside out)
+reported written text more old new (Err fault) ending (inr (is, appended)) answers outside tells = (
+  more,
+  subst (λ (w : Written). Answers w more old new ending) (same written text (Some fault) is appended) answers,
+  λ low. subst (λ (f : Option EngineFault). Tells f more) (sym is) tells,
+)

@@ -54,10 +54,9 @@ pub record Answers (written : Written) (more old new : List ℕ) (ending : Endin
       → HasLengths written.text (said_of written.fault) more ending
       × NeedsMore written.text (said_of written.fault) more old new
 
--- what a run wrote that ended so
-abbrev pub written_of : List ℕ → Result Unit EngineFault → Written
-written_of text (Ok done) = record { text = text; fault = None }
-written_of text (Err fault) = record { text = text; fault = Some fault }
+-- a text, and the fault that ended it, if there is one
+abbrev pub writing : List ℕ → Option EngineFault → Written
+writing text fault = record { text = text; fault = fault }
 
 -- as that, and what is more tells of the fault of what the run writes
 abbrev pub Reports : Written → (old new : List ℕ) → Ending → Type 0

@@ -3,7 +3,8 @@
 ghost use Rattle.std.specs.Prelude.{◌≡◌, ◌≤◌, IfErr, length, string_bytes};
 ghost use Rattle.mctpctl_input.specs.FaultTexts.{fault_text};
 ghost use Rattle.mctpctl_input.specs.OutsideFaults.{IsOutside};
-ghost use Rattle.needleoat_page.specs.Endings.{Answers, IsPut, written_of};
+ghost use Rattle.needleoat_page.specs.Explanations.{fault_of};
+ghost use Rattle.needleoat_page.specs.Endings.{Answers, IsPut, writing};
 
 use mctpctl_input::{EngineFault, fault_line, status_of};
 use std::alloc::Global;
@@ -11,8 +12,8 @@ use std::alloc::Global;
 /// The whole input was taken: the room begins with the text, and then has what `--explain` says.
 pub const DONE: u8 = 0;
 
-/// The input was refused: the room begins with the text of what came before, and then has what is said of the fault, and
-/// what `--explain` says.
+/// The input was refused: the room begins with the text of what came before, and then has what is said of the fault,
+/// and what `--explain` says.
 pub const REFUSED: u8 = 1;
 
 /// The run could not be done, since there was no memory for it. Nothing was put into the room.
@@ -71,7 +72,7 @@ pub fn report(
     more: &[u8],
     room: &mut [u8],
 ) -> Ending
-    ensures answers { Answers (written_of text.now ended.now) more.now room.old room.new result }
+    ensures answers { Answers (writing text.now (fault_of ended.now)) more.now room.old room.new result }
     ensures outside { IfErr ended.now (λ fault. IsOutside fault → result.status ≡ NOT_RUN) }
 {
     let fault = match ended {

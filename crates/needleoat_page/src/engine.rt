@@ -1,5 +1,6 @@
 //! An engine of `mctpctl`, as a call of the page runs it.
-// A call knows of an engine only what the trait says. Where it knew the engine's own text, the proof would spell that out.
+// A call knows of an engine only what the trait says. Where it knew the engine's own text, the proof would spell that
+// out.
 
 ghost use Rattle.std.specs.Prelude.{ℕ, List};
 ghost use Rattle.mctpctl_decode.specs.TransferTexts.{decoded_text};

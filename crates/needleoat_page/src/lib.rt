@@ -1,5 +1,5 @@
-//! The engines of `mctpctl` for a web page: each runs over the bytes of an input, and what it writes, what it says of a
-//! fault of the input and what `--explain` adds are put into a room that the page gives.
+//! The engines of `mctpctl` for a web page: each runs over the bytes of an input, and what it writes, what is said of
+//! a fault of the input and what `--explain` adds are put into a room that the page gives.
 #![tactic(auto)]
 
 mod calls;

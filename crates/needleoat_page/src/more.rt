@@ -1,7 +1,7 @@
 //! What `--explain` adds: the fault in more words, and warnings.
 
-ghost use Rattle.std.specs.Prelude.{IfOk};
-ghost use Rattle.needleoat_page.specs.Explanations.{Explains, Tells, fault_of};
+ghost use Rattle.std.specs.Prelude.{IfOk, Some};
+ghost use Rattle.needleoat_page.specs.Explanations.{Explains, IsLineOf, Tells, fault_of};
 
 use mctp_packet::Memory;
 use mctpctl_explain::{Subcommand, explain, warnings};
@@ -10,6 +10,7 @@ use std::alloc::Global;
 
 /// A line of what more there is to say of the fault, if there is, and a line of each warning, as `mctpctl --explain`
 /// prints them behind its own name.
+#[tactic(auto, using(crate::proofs::Reported::tells))]
 pub fn more_text(
     alloc: Global,
     subject: Subcommand,
@@ -33,13 +34,34 @@ fn explained_line(
 ) -> Result<Vec<u8>, Memory>
     ensures { IfOk result (λ line. Explains (fault_of ended.now) line.items) }
 {
+    match ended {
+        Ok(()) => Ok(Vec::new(alloc)),
+        Err(fault) => line_of_fault(alloc, subject, input, fault),
+    }
+}
+
+/// As that, of a fault.
+#[tactic(auto, using(crate::proofs::Reported::explains))]
+fn line_of_fault(
+    alloc: Global,
+    subject: Subcommand,
+    input: &[u8],
+    fault: &EngineFault,
+) -> Result<Vec<u8>, Memory>
+    ensures { IfOk result (λ line. Explains (Some fault.now) line.items) }
+{
+    let text = explain(alloc, subject, input, fault)?;
+    as_line(alloc, &text)
+}
+
+/// A text as a line; no line where it is empty.
+fn as_line(alloc: Global, text: &str) -> Result<Vec<u8>, Memory>
+    ensures { IfOk result (λ line. IsLineOf text.now line.items) }
+{
     let mut line = Vec::new(alloc);
-    if let Err(fault) = ended {
-        let text = explain(alloc, subject, input, fault)?;
-        if !text.is_empty() {
-            line.extend_from_slice(text.as_bytes())?;
-            line.push(b'\n')?;
-        }
+    if !text.is_empty() {
+        line.extend_from_slice(text.as_bytes())?;
+        line.push(b'\n')?;
     }
     Ok(line)
 }
