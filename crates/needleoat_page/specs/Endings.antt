@@ -59,6 +59,7 @@ abbrev pub writing : List ℕ → Option EngineFault → Written
 writing text fault = record { text = text; fault = fault }
 
 -- as that, and what is more tells of the fault of what the run writes
-abbrev pub Reports : Written → (old new : List ℕ) → Ending → Type 0
-Reports written old new ending =
-    (more : List ℕ) × Answers written more old new ending × (ending.status ≤ REFUSED → Tells written.fault more)
+pub record Reports (written : Written) (old new : List ℕ) (ending : Ending) : Type 0 where
+  pub more : List ℕ
+  pub answers : Answers written more old new ending
+  pub tells : ending.status ≤ REFUSED → Tells written.fault more

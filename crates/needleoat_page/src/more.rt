@@ -1,7 +1,7 @@
 //! What `--explain` adds: the fault in more words, and warnings.
 
-ghost use Rattle.std.specs.Prelude.{IfOk, Some};
-ghost use Rattle.needleoat_page.specs.Explanations.{Explains, IsLineOf, Tells, fault_of};
+ghost use Rattle.std.specs.Prelude.{◌≡◌, IfOk, Some, map, string_bytes};
+ghost use Rattle.needleoat_page.specs.Explanations.{Explains, IsLineOf, Tells, Warns, fault_of, warning_lines};
 
 use mctp_packet::Memory;
 use mctpctl_explain::{Subcommand, explain, warnings};
@@ -66,10 +66,21 @@ fn as_line(alloc: Global, text: &str) -> Result<Vec<u8>, Memory>
     Ok(line)
 }
 
-/// A line of each warning.
-fn warned_lines(alloc: Global, subject: Subcommand, input: &[u8]) -> Result<Vec<u8>, Memory> {
+/// A line of each warning of the input.
+#[tactic(auto, using(crate::proofs::Reported::warned))]
+fn warned_lines(alloc: Global, subject: Subcommand, input: &[u8]) -> Result<Vec<u8>, Memory>
+    ensures { IfOk result (λ lines. Warns lines.items) }
+{
+    let found = warnings(alloc, subject, input)?;
+    lines_of(alloc, &found)
+}
+
+/// A line of each of these warnings.
+fn lines_of(alloc: Global, warnings: &[String]) -> Result<Vec<u8>, Memory>
+    ensures { IfOk result (λ lines. lines.items ≡ warning_lines (map (λ text. string_bytes text) warnings.now)) }
+{
     let mut lines = Vec::new(alloc);
-    for warning in warnings(alloc, subject, input)?.iter() {
+    for warning in warnings {
         lines.extend_from_slice(b"warning: ")?;
         lines.extend_from_slice(warning.as_bytes())?;
         lines.push(b'\n')?;
