@@ -28,9 +28,9 @@ SUMS = """define internal <16 x i8> @sums_of_pairs(<16 x i8> %a, <16 x i8> %b) {
     odd=", ".join(f"i32 {2 * place + 1}" for place in range(16)),
 )
 
-# What LLVM calls by a name of its own, and every processor has: the names up to the types.
-INTRINSIC = re.compile(r"@llvm\.([a-z0-9]+(?:\.[a-z][a-z_]*)*)")
-GENERAL = set()
+# What LLVM calls by a name of its own, before the types, and every processor has.
+INTRINSIC = re.compile(r"@llvm\.([a-z0-9_.]+?)(?:\.(?:v[0-9]+)?[ipf][0-9]+)*\(")
+GENERAL = {"arithmetic.fence", "ctlz", "cttz", "memcpy", "memmove", "memset", "trap"}
 
 # What is not for every processor, and would be compiled to something else, or not at all.
 STRANGE = [
