@@ -23,8 +23,9 @@ QUESTION = "010908c801800002"
 DECODED = "0 8>9 tag 0 to 1 som 1 eom 1 seq 0 len 4 whole\n  request 0 GetTID\n"
 
 # The machine may be at work, so the least time of several counts. 200 ms are wanted of a machine at rest; a gate beside
-# other work gets more.
+# other work gets more. A browser compiles a module better once it has run for some time.
 LOADS = 5
+LARGE_RUNS = 8
 MOST_MILLISECONDS = 1000
 MOST_TIMES_NATIVE = 3
 
@@ -286,18 +287,17 @@ def large_files(rows, used, run, room):
         file.write(text)
     rows.check("1 MiB is decoded", run(["show", "--decode"], text).stdout.decode() == shown)
     used.turn("show")
-    times = []
-    for _ in range(3):
+    times, natives = [], []
+    for _ in range(LARGE_RUNS):
+        if times:
+            used.click("close")
         used.page.drop(path)
         used.page.wait("document.getElementById('large').checkVisibility()")
         used.settle()
         times.append(float(used.text("took").split()[2]))
-        front = "".join(shown.splitlines(True)[:SHOWN_LINES])
-        rows.check("1 MiB is dropped: its front is shown", used.text("text") == front)
-        used.click("close")
-    used.page.drop(path)
-    used.page.wait("document.getElementById('large').checkVisibility()")
-    used.settle()
+        natives.append(native_time(used.program, text) if used.program else 0)
+    front = "".join(shown.splitlines(True)[:SHOWN_LINES])
+    rows.check("1 MiB is dropped: its front is shown", used.text("text") == front)
     left = f"{len(shown) - len(front):,} characters more are not shown yet."
     rows.equal("and how much is not", used.text("rest-note"), left)
     used.click("more")
@@ -306,9 +306,8 @@ def large_files(rows, used, run, room):
     rows.equal("it has no place in a link", used.text("linked-note"), "A file of this size has no place in a link.")
     used.click("close")
     if used.program:
-        natives = [native_time(used.program, text) for _ in range(3)]
         well = min(times) <= MOST_TIMES_NATIVE * min(natives)
-        found = f"{min(times)} ms, the program {min(natives):.0f} ms"
+        found = f"{min(times)} ms, {times[0]} ms at first, the program {min(natives):.0f} ms"
         rows.measure("1 MiB takes three times the program's time at most", well, found)
 
 

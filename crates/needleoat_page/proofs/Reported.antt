@@ -10,7 +10,7 @@ use Rattle.mctpctl_input.specs.declared.faults.EngineFault.{EngineFault}
 use Rattle.needleoat_page.specs.Endings.{Answers, Reports, writing}
 use Rattle.needleoat_page.specs.Explanations.{Explains, IsLineOf, Tells, Warns, fault_of, warning_lines}
 use Rattle.needleoat_page.specs.declared.ending.Ending.{Ending}
-use Rattle.needleoat_page.specs.declared.ending.TheConstants.{NOT_RUN, REFUSED}
+use Rattle.needleoat_page.specs.declared.ending.TheConstants.{NOT_RUN}
 
 -- the line of an explanation
 pub explains : (fault : EngineFault) (text line : List ℕ) → IsLineOf text line → ExplainsDevice fault text → ExplainsLine fault text

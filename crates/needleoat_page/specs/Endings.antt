@@ -1,6 +1,6 @@
 -- What a call of the page puts into the room, and how it says that the run ended.
 use Rattle.std.specs.Prelude.{◌≡◌, ◌≤◌, ◌<◌, ℕ, ◌+◌, ◌==◌, if◌then◌else◌, List, [], ◌++◌, length, drop}
-use Rattle.std.specs.Prelude.{Option, None, Some, IsSome, Result, Ok, Err}
+use Rattle.std.specs.Prelude.{Option, None, Some, IsSome}
 use Rattle.mctpctl_engines.specs.LineRuns.{Written}
 use Rattle.mctpctl_input.specs.FaultTexts.{fault_text}
 use Rattle.mctpctl_input.specs.declared.binding.Binding.{Binding}
