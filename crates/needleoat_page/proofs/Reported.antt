@@ -29,14 +29,16 @@ tells fault line lines more is explained warned = (line, lines, is, explained, w
 -- nothing is said of a run that could not be done
 pub not_run : (written : Written) (old new : List ℕ) (ending : Ending) → ending.status ≡ NOT_RUN → Reports written old new ending
 not_run written old new ending is = record {
-    more = [];
-    answers = record {
-        done = λ e. absurd (omega (arith, is, e));
-        refused = λ e. absurd (omega (arith, is, e));
-        lengths = λ e. absurd (omega (arith, is, e));
-        all = λ e. absurd (omega (arith, is, e));
-        needs = λ e. absurd (omega (arith, is, e)) };
-    tells = λ e. absurd (omega (arith, is, e)) }
+  more = [];
+  answers = record {
+    done = λ e. absurd (omega (arith, is, e));
+    refused = λ e. absurd (omega (arith, is, e));
+    lengths = λ e. absurd (omega (arith, is, e));
+    all = λ e. absurd (omega (arith, is, e));
+    needs = λ e. absurd (omega (arith, is, e));
+  };
+  tells = λ e. absurd (omega (arith, is, e));
+}
 
 -- two parts of what is written are the whole
 same : (written : Written) (text : List ℕ) (fault : Option EngineFault) → written.fault ≡ fault → text ≡ written.text
@@ -48,9 +50,10 @@ same written text fault of_fault of_text =
 done : (written : Written) (text more old new : List ℕ) (fault : Option EngineFault) (ending : Ending) → written.fault ≡ fault
     → text ≡ written.text → Answers (writing text fault) more old new ending → Tells fault more → Reports written old new ending
 done written text more old new fault ending of_fault of_text answers tells = record {
-    more = more;
-    answers = subst (λ (w : Written). Answers w more old new ending) (same written text fault of_fault of_text) answers;
-    tells = λ low. subst (λ (f : Option EngineFault). Tells f more) (sym of_fault) tells }
+  more = more;
+  answers = subst (λ (w : Written). Answers w more old new ending) (same written text fault of_fault of_text) answers;
+  tells = λ low. subst (λ (f : Option EngineFault). Tells f more) (sym of_fault) tells;
+}
 
 -- what is said of a run
 pub reported : (written : Written) (text more old new : List ℕ) (ended : Result Unit EngineFault) (ending : Ending)
