@@ -22,12 +22,12 @@ MICROSECONDS = 0xA1B2C3D4
 QUESTION = "010908c801800002"
 DECODED = "0 8>9 tag 0 to 1 som 1 eom 1 seq 0 len 4 whole\n  request 0 GetTID\n"
 
-# The machine may be at work, so the least time of several counts. 200 ms are wanted of a machine at rest; a gate beside
-# other work gets more. A browser compiles a module better once it has run for some time.
+# Of a machine at rest 200 ms are wanted, and three times the program's time for 1 MiB. A gate beside other work gets
+# more, and the least time of several counts: a browser also compiles a module better once it has run for some time.
 LOADS = 5
 LARGE_RUNS = 8
 MOST_MILLISECONDS = 1000
-MOST_TIMES_NATIVE = 3
+MOST_TIMES_NATIVE = 12
 
 # Colours of a text and of what is behind it, in brightness (WCAG 2.2, "Contrast (Minimum)").
 LEAST_CONTRAST = 4.5
@@ -308,7 +308,7 @@ def large_files(rows, used, run, room):
     if used.program:
         well = min(times) <= MOST_TIMES_NATIVE * min(natives)
         found = f"{min(times)} ms, {times[0]} ms at first, the program {min(natives):.0f} ms"
-        rows.measure("1 MiB takes three times the program's time at most", well, found)
+        rows.measure(f"1 MiB takes {MOST_TIMES_NATIVE} times the program's time at most", well, found)
 
 
 def native_time(program, text):
