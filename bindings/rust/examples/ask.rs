@@ -91,6 +91,14 @@ impl Asker<'_> {
         }
     }
 
+    /// Writes how long the requester may sleep.
+    fn write_deadline(&mut self) -> fmt::Result {
+        match self.requester.next_deadline() {
+            Some(deadline) => writeln!(self.out, "nothing is due before {}", deadline.ms()),
+            None => writeln!(self.out, "nothing is due"),
+        }
+    }
+
     fn receive(&mut self, now: u64, packet: &[u8]) -> fmt::Result {
         let received = with_memory(|| match self.requester.receive(moment(now), packet) {
             Receiving::Refused(refusal) => Err(refusal),
@@ -141,10 +149,12 @@ pub fn run(_input: &str, out: &mut String) -> fmt::Result {
     asker.open(0, &set)?;
     asker.send(0, 0, &mut device)?; // this answer is lost
     asker.status(0)?;
+    asker.write_deadline()?;
     asker.tick(199)?;
     asker.tick(200)?;
     asker.send(200, 0, &mut device)?;
     asker.receive(210, &device.answer)?;
+    asker.write_deadline()?;
     asker.receive(211, &device.answer)?;
     asker.status(0)?;
 
@@ -155,6 +165,7 @@ pub fn run(_input: &str, out: &mut String) -> fmt::Result {
 
     asker.open(399, &Command { pldm_type: 1, ..Command::ZERO })?;
     asker.open(400, &get_tid)?;
+    asker.write_deadline()?;
     asker.tick(399)?;
     asker.tick(1000)?;
     asker.status(2)?;

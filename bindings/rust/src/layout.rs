@@ -6,6 +6,7 @@ use crate::fields::*;
 use crate::raw::{
     Block, CommandReading, Due, Handle, I2cFrame, I3cFrame, Message, Opening, Packet, Receiving, Status, Step,
 };
+use crate::record_fields::*;
 
 /// A struct of the header: its size, and where each of its fields begins.
 macro_rules! layout {

@@ -33,6 +33,7 @@ mod memory;
 mod moment;
 mod numbers;
 mod raw;
+mod record_fields;
 mod records;
 mod requester;
 
@@ -42,12 +43,16 @@ pub use codecs::{
 };
 pub use endpoint::{Answered, Endpoint, Packets, Step};
 pub use fields::{
-    Answer, Command, CommandHandle, Conversion, EffecterName, EffecterRange, EffecterState, EndpointSettings, Entity,
-    EntityName, NumericEffecter, NumericSensor, PossibleStates, Request, RequesterSettings, SensorName, SensorRange,
-    SensorState, SetState, StateEffecter, StateSensor, TerminusLocator, Units,
+    Answer, Command, CommandHandle, EffecterState, EndpointSettings, Request, RequesterSettings, SensorState, SetState,
 };
 pub use frames::{i2c_read, i2c_write, i3c_read, i3c_write, I2cFrame};
 pub use moment::{Clock, Moment};
-pub use numbers::{bounds, busy, command, data_size, AnswerFault, I2cFault, I3cFault, Reason, RecordsFault, Refusal};
+pub use numbers::{
+    bounds, busy, command, completion_code, data_size, AnswerFault, I2cFault, I3cFault, Reason, RecordsFault, Refusal,
+};
+pub use record_fields::{
+    Conversion, EffecterName, EffecterRange, Entity, EntityName, NumericEffecter, NumericSensor, PossibleStates,
+    SensorName, SensorRange, StateEffecter, StateSensor, TerminusLocator, Units,
+};
 pub use records::{records_answer, Record};
 pub use requester::{Due, Opening, Receiving, Requester, Status};

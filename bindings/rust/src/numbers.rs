@@ -80,6 +80,43 @@ pub mod data_size {
     pub const REAL32: u8 = 6;
 }
 
+/// Completion codes (DSP0240, "Generic PLDM completion codes"); those from 0x80 on are of the commands that are named:
+/// there one number means another thing for each command (DSP0240, DSP0248).
+pub mod completion_code {
+    /// The command was carried out.
+    pub const SUCCESS: u8 = 0x00;
+    /// A fault for which there is no other code.
+    pub const ERROR: u8 = 0x01;
+    /// A field has a value that it may not have.
+    pub const INVALID_DATA: u8 = 0x02;
+    /// More or fewer bytes of data than the command has.
+    pub const INVALID_LENGTH: u8 = 0x03;
+    /// The command can't be carried out now.
+    pub const NOT_READY: u8 = 0x04;
+    /// There is no such command.
+    pub const UNSUPPORTED_PLDM_CMD: u8 = 0x05;
+    /// There is no such PLDM type.
+    pub const INVALID_PLDM_TYPE: u8 = 0x20;
+    /// GetPLDMVersion, GetPDR: no such part.
+    pub const INVALID_DATA_TRANSFER_HANDLE: u8 = 0x80;
+    /// GetPLDMVersion, GetPDR: neither the first part nor the next.
+    pub const INVALID_TRANSFER_OPERATION_FLAG: u8 = 0x81;
+    /// GetPLDMVersion, GetPLDMCommands: no such PLDM type.
+    pub const INVALID_PLDM_TYPE_IN_REQUEST_DATA: u8 = 0x83;
+    /// GetPLDMCommands: the type has no such version.
+    pub const INVALID_PLDM_VERSION_IN_REQUEST_DATA: u8 = 0x84;
+    /// GetSensorReading, GetStateSensorReadings: no such sensor.
+    pub const INVALID_SENSOR_ID: u8 = 0x80;
+    /// The commands of effecters: no such effecter.
+    pub const INVALID_EFFECTER_ID: u8 = 0x80;
+    /// SetStateEffecterStates: a state that the effecter does not have.
+    pub const INVALID_STATE_VALUE: u8 = 0x81;
+    /// GetPDR: no such record.
+    pub const INVALID_RECORD_HANDLE: u8 = 0x82;
+    /// GetPDR: the record was changed since its first part.
+    pub const INVALID_RECORD_CHANGE_NUMBER: u8 = 0x83;
+}
+
 /// Which requests are answered 'not ready' in the busy time.
 pub mod busy {
     /// Each one with a good header.

@@ -1,10 +1,10 @@
 //! The calls of `needleoat.h` as they are there. The other files keep what the header asks of their pointers.
 
-use crate::fields::{
-    Answer, Command, CommandHandle, EffecterName, EndpointSettings, EntityName, NumericEffecter, NumericSensor,
-    Request, RequesterSettings, SensorName, StateEffecter, StateSensor, TerminusLocator,
-};
+use crate::fields::{Answer, Command, CommandHandle, EndpointSettings, Request, RequesterSettings};
 use crate::numbers::bounds::{PACKETS, PACKET_BYTES};
+use crate::record_fields::{
+    EffecterName, EntityName, NumericEffecter, NumericSensor, SensorName, StateEffecter, StateSensor, TerminusLocator,
+};
 
 /// What `needleoat_packet_read` returns.
 #[repr(C)]
@@ -222,6 +222,7 @@ extern "C" {
     pub fn needleoat_requester_new(settings: *const RequesterSettings, requester: *mut Handle) -> u8;
     pub fn needleoat_requester_open(requester: *mut Handle, now_ms: u64, request: *const u8, length: u64) -> Opening;
     pub fn needleoat_requester_tick(requester: *mut Handle, now_ms: u64, due: *mut Due) -> u8;
+    pub fn needleoat_requester_next_deadline(requester: *mut Handle, deadline_ms: *mut u64) -> bool;
     pub fn needleoat_requester_receive(
         requester: *mut Handle,
         now_ms: u64,

@@ -1,11 +1,11 @@
 //! Platform data records (DSP0248), written and answered for.
 
-use crate::fields::{
-    Answer, Command, EffecterName, EntityName, NumericEffecter, NumericSensor, SensorName, StateEffecter, StateSensor,
-    TerminusLocator,
-};
+use crate::fields::{Answer, Command};
 use crate::numbers::RecordsFault;
 use crate::raw::{self, given, written};
+use crate::record_fields::{
+    EffecterName, EntityName, NumericEffecter, NumericSensor, SensorName, StateEffecter, StateSensor, TerminusLocator,
+};
 
 /// The fields of a platform data record.
 pub trait Record {

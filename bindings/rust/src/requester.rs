@@ -150,6 +150,16 @@ impl Requester {
         Ok(Due(due))
     }
 
+    /// The moment from which on [`Requester::tick`] finds something due, and nothing before: so an end may sleep until
+    /// then, or until a packet comes. It may have passed: then a tick is due at once. `None` where there is no such
+    /// moment, as where no request is open. Each other call may change it.
+    pub fn next_deadline(&mut self) -> Option<Moment> {
+        let mut deadline = 0;
+        // SAFETY: the handle and `deadline` are borrowed alone.
+        let is_told = unsafe { raw::needleoat_requester_next_deadline(&mut self.handle, &mut deadline) };
+        Moment::from_ms(deadline).filter(|_| is_told)
+    }
+
     /// Receives the bytes of a packet that came at a moment.
     pub fn receive(&mut self, now: Moment, packet: &[u8]) -> Receiving {
         if let Err(refusal) = self.reach(now) {

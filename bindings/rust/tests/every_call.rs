@@ -55,6 +55,7 @@ fn with_a_safe_call() -> BTreeSet<&'static str> {
         needleoat_requester_new => Requester::make;
         needleoat_requester_open => Requester::open;
         needleoat_requester_tick => Requester::tick;
+        needleoat_requester_next_deadline => Requester::next_deadline;
         needleoat_requester_receive => Requester::receive;
         needleoat_requester_packet => Requester::packet;
         needleoat_requester_status => Requester::status;
@@ -90,7 +91,7 @@ fn in_source(source: &'static str) -> BTreeSet<&'static str> {
 fn each_function_is_declared_and_called() {
     let code = code();
     let functions = functions(&code);
-    assert_eq!(functions.len(), 42, "the test reads the header: 39 calls and three of memory");
+    assert_eq!(functions.len(), 43, "the test reads the header: 40 calls and three of memory");
     let (memory, calls): (BTreeSet<&str>, BTreeSet<&str>) =
         functions.iter().partition(|name| name.starts_with("rattle_"));
     assert_eq!(calls, with_a_safe_call());
@@ -169,7 +170,7 @@ fn the_numbers_are_those_of_the_header() {
 /// The constants of the crate, and those of the header.
 #[test]
 fn the_constants_are_those_of_the_header() {
-    use needleoat::{bounds, busy, command, data_size};
+    use needleoat::{bounds, busy, command, completion_code, data_size};
     let constants = [
         ("PACKET_BYTES", bounds::PACKET_BYTES),
         ("PACKETS", bounds::PACKETS),
@@ -198,6 +199,22 @@ fn the_constants_are_those_of_the_header() {
         ("GET_STATE_EFFECTER_STATES", command::GET_STATE_EFFECTER_STATES.into()),
         ("GET_PDR_REPOSITORY_INFO", command::GET_PDR_REPOSITORY_INFO.into()),
         ("GET_PDR", command::GET_PDR.into()),
+        ("CODE_SUCCESS", completion_code::SUCCESS.into()),
+        ("CODE_ERROR", completion_code::ERROR.into()),
+        ("CODE_INVALID_DATA", completion_code::INVALID_DATA.into()),
+        ("CODE_INVALID_LENGTH", completion_code::INVALID_LENGTH.into()),
+        ("CODE_NOT_READY", completion_code::NOT_READY.into()),
+        ("CODE_UNSUPPORTED_PLDM_CMD", completion_code::UNSUPPORTED_PLDM_CMD.into()),
+        ("CODE_INVALID_PLDM_TYPE", completion_code::INVALID_PLDM_TYPE.into()),
+        ("CODE_INVALID_DATA_TRANSFER_HANDLE", completion_code::INVALID_DATA_TRANSFER_HANDLE.into()),
+        ("CODE_INVALID_TRANSFER_OPERATION_FLAG", completion_code::INVALID_TRANSFER_OPERATION_FLAG.into()),
+        ("CODE_INVALID_PLDM_TYPE_IN_REQUEST_DATA", completion_code::INVALID_PLDM_TYPE_IN_REQUEST_DATA.into()),
+        ("CODE_INVALID_PLDM_VERSION_IN_REQUEST_DATA", completion_code::INVALID_PLDM_VERSION_IN_REQUEST_DATA.into()),
+        ("CODE_INVALID_SENSOR_ID", completion_code::INVALID_SENSOR_ID.into()),
+        ("CODE_INVALID_EFFECTER_ID", completion_code::INVALID_EFFECTER_ID.into()),
+        ("CODE_INVALID_STATE_VALUE", completion_code::INVALID_STATE_VALUE.into()),
+        ("CODE_INVALID_RECORD_HANDLE", completion_code::INVALID_RECORD_HANDLE.into()),
+        ("CODE_INVALID_RECORD_CHANGE_NUMBER", completion_code::INVALID_RECORD_CHANGE_NUMBER.into()),
         ("UINT8", data_size::UINT8.into()),
         ("SINT8", data_size::SINT8.into()),
         ("UINT16", data_size::UINT16.into()),
