@@ -365,7 +365,7 @@ uint8_t needleoat_crc8(const uint8_t *bytes, uint64_t length);
  *
  *   - a field is out of range: `record_handle` 0, a flag that is neither 0 nor 1, a data size above 5, a range format
  *     above 6, a number that does not fit its data size or its format, a `count` other than 1 to 8, a `size` of
- *     possible states other than 1 to 32, a `length` above 140, a code unit of a name that is 0;
+ *     possible states other than 1 to 32, a `length` above 127, a code unit of a name that is 0;
  *   - the record has more than `room` bytes.
  *
  * A field that is a real32 is given as its bits: copy a `float` to it by memcpy. Numbers of sensors and effecters are
@@ -521,7 +521,7 @@ struct needleoat_state_effecter {
  */
 struct needleoat_sensor_name {
     uint32_t record_handle;
-    uint32_t length; /* how many code units of `text` there are, at most 140 */
+    uint32_t length; /* how many code units of `text` there are, at most 127 */
     uint16_t change_number;
     uint16_t terminus_handle;
     uint16_t sensor_id;
@@ -530,7 +530,7 @@ struct needleoat_sensor_name {
 
 struct needleoat_effecter_name {
     uint32_t record_handle;
-    uint32_t length; /* how many code units of `text` there are, at most 140 */
+    uint32_t length; /* how many code units of `text` there are, at most 127 */
     uint16_t change_number;
     uint16_t terminus_handle;
     uint16_t effecter_id;
@@ -539,7 +539,7 @@ struct needleoat_effecter_name {
 
 struct needleoat_entity_name {
     uint32_t record_handle;
-    uint32_t length; /* how many code units of `text` there are, at most 140 */
+    uint32_t length; /* how many code units of `text` there are, at most 127 */
     uint16_t change_number;
     struct needleoat_entity entity; /* of the overall container, the name of the terminus */
     uint16_t text[NEEDLEOAT_NAME_UNITS]; /* UTF-16; none of them is 0 */

@@ -115,7 +115,7 @@ pub extern "C" fn needleoat_state_effecter_record_write(
 
 /// Writes a record of a sensor's name to the front of `out`, and returns its length in bytes (DSP0248,
 /// "Sensor auxiliary names PDR"). Returns 0 and leaves `out` as it was where the record handle is 0, where a code unit
-/// of the name is 0 or there are more than 140, and where `out` is too short.
+/// of the name is 0 or there are more than 127, and where `out` is too short.
 #[unsafe(no_mangle)]
 pub extern "C" fn needleoat_sensor_name_record_write(
     fields: &SensorNameFields,
@@ -128,7 +128,7 @@ pub extern "C" fn needleoat_sensor_name_record_write(
 
 /// Writes a record of an effecter's name to the front of `out`, and returns its length in bytes (DSP0248,
 /// "Effecter auxiliary names PDR"). Returns 0 and leaves `out` as it was where the record handle is 0, where a code
-/// unit of the name is 0 or there are more than 140, and where `out` is too short.
+/// unit of the name is 0 or there are more than 127, and where `out` is too short.
 #[unsafe(no_mangle)]
 pub extern "C" fn needleoat_effecter_name_record_write(
     fields: &EffecterNameFields,
@@ -141,7 +141,7 @@ pub extern "C" fn needleoat_effecter_name_record_write(
 
 /// Writes a record of an entity's name to the front of `out`, and returns its length in bytes (DSP0248,
 /// "Entity auxiliary names PDR"). Returns 0 and leaves `out` as it was where the record handle is 0, where a code unit
-/// of the name is 0 or there are more than 140, and where `out` is too short.
+/// of the name is 0 or there are more than 127, and where `out` is too short.
 #[unsafe(no_mangle)]
 pub extern "C" fn needleoat_entity_name_record_write(
     fields: &EntityNameFields,
