@@ -1,8 +1,8 @@
 -- What a requester holds and answers is what looking back over the list of its calls says.
-use Rattle.std.proofs.Common.{◌≡◌, ◌⊎◌, ℕ, zero, suc, ◌+◌, ◌-◌, ◌*◌, ◌<◌, ◌≤◌, Bool, true, false, cond, List, ◌∷◌, length, Option, Some, None, Result, Ok, Err, refl, sym, ap, ◌∙◌, subst, inl, inr, arith, lit≤, eq-eqb}
-use Rattle.std.specs.Prelude.{◌&&◌, ◌==◌, not, nat_lt, nat_le, filter, option_map, is_some, if◌then◌else◌}
+use Rattle.std.proofs.Common.{◌≡◌, ◌⊎◌, ℕ, zero, suc, ◌+◌, ◌-◌, ◌<◌, ◌≤◌, Bool, true, false, cond, List, ◌∷◌, length, Option, Some, None, Result, Ok, Err, refl, sym, ap, ◌∙◌, subst, inl, inr, arith, lit≤, eq-eqb}
+use Rattle.std.specs.Prelude.{◌&&◌, ◌||◌, ◌==◌, not, nat_lt, nat_le, filter, option_map, is_some, if◌then◌else◌}
 use Rattle.std.specs.List.{range_with_len}
-use Rattle.std.proofs.lemmas.Bool.{and_left, cases_Bool, cases_eq, cond-true, cond-false, ne_eqb, leb-true, le-ltb}
+use Rattle.std.proofs.lemmas.Bool.{and_left, and_parts, cases_Bool, cases_eq, cond-true, cond-false, ne_eqb, ltb-true, leb-true, le-ltb}
 use Rattle.std.proofs.lemmas.List.FromFn.{length-range_with_len}
 use Rattle.std.proofs.lemmas.List.Sums.{length-filter, count_by-le-length}
 use Rattle.mctp_packet.specs.Packets.{Packet}
@@ -23,15 +23,18 @@ use Rattle.pldm_wire.specs.Responses.{Response, response_of}
 use Rattle.pldm_wire.specs.declared.command.Command.{Command}
 use Rattle.pldm_requester.specs.Arrivals.{Arrival, Drop, Part, Answer, got_of, response_arrival, fed_arrival, packet_arrival, passed_arrival}
 use Rattle.pldm_requester.specs.Calls as calls
-use Rattle.pldm_requester.specs.Calls.{Call, Open, Tick, Receive, Request, Requests, new_request, put, opened, with_request, is_open_at, open_answer, open_on, answer_key, is_from_device, numbers_of, ticked_request, fed_by, answered_by, requests, last_moment, with_packet, assembled}
+use Rattle.pldm_requester.specs.Calls.{Call, Open, Tick, Receive, Request, Requests, course_at, new_request, put, opened, with_request, is_open_at, open_answer, open_on, answer_key, is_from_device, numbers_of, ticked_request, fed_by, answered_by, requests, last_moment, with_packet, assembled}
 use Rattle.pldm_requester.specs.Courses.{Course, is_open, is_given_up, is_sent_again, ticked, answered}
+use Rattle.pldm_requester.specs.Pacing.{newest, is_too_soon, stride, is_crowded}
 use Rattle.pldm_requester.specs.Laws.{memo_of, memo_at, IsLeftBy, OpenLooksBack, TickLooksBack, ReceiveLooksBack, NewLooksBack, SameIsLeft, FewAreOpen}
 use Rattle.pldm_requester.specs.Numbering.{tag_of, packets_of}
 use Rattle.pldm_requester.specs.Steps as steps
-use Rattle.pldm_requester.specs.Steps.{Memo, RequesterState, IsHeld, is_recent, passes, with_course, latest_on, where_open, recent_numbers, is_mine_by, open_after, opened_held, opening_answer, again_at, given_up_at, ticked_held, arrived_by, remembered_after, got_at, held_by, received_held}
+use Rattle.pldm_requester.specs.Steps.{Memo, RequesterState, IsHeld, is_recent, passes, course_of, with_course, latest_on, where_open, recent_numbers, is_mine_by, open_after, opened_held, opening_answer, again_at, given_up_at, ticked_held, arrived_by, remembered_after, got_at, held_by, received_held}
+use Rattle.pldm_requester.specs.declared.pace.Pace.{Pace}
 use Rattle.pldm_requester.specs.declared.timing.Timing.{Timing}
 use Rattle.pldm_requester.proofs.SlotLists.{recent_parts, recent_from}
 use Rattle.pldm_requester.proofs.OpenRequests.{put_here, put_other, Recent, within, recent, given_up_open, sent_again_open, came_course, came_command, came_count, came_by, came_by_count}
+use Rattle.pldm_requester.proofs.NewestRequests.{newest_same, stride_range}
 use Rattle.pldm_requester.proofs.TagSearch.{latest_is}
 use Rattle.pldm_requester.proofs.FedPackets.{expected, comes_to, goes_where, fed_since}
 
@@ -92,9 +95,9 @@ numbers_is own device a test opens f =
     shut n closed (inr e) = e
 
 pub few_are_open : FewAreOpen
-few_are_open own device timing before =
-    let a = requests own device timing before in
-    let f = recent own device timing before in
+few_are_open own device timing pace before =
+    let a = requests own device timing pace before in
+    let f = recent own device timing pace before in
     let same = filter_recent (λ n. is_open (a.each n).course) a.count f.closed in
     let all = length-filter (λ n. is_open (a.each n).course) (recent_numbers a.count) in
     let some = count_by-le-length (λ n. is_open (a.each n).course) (recent_numbers a.count) in
@@ -102,24 +105,26 @@ few_are_open own device timing before =
     subst (λ xs. length xs ≤ 8) same (omega (arith, all, some, long))
 
 -- ---- what these requests leave, with any open messages and last moment
-module _ (own device : ℕ) (timing : Timing) where
+module _ (own device : ℕ) (timing : Timing) (pace : Pace) where
   abbrev left_by : assembling.OpenMessages → ℕ → Requests → RequesterState
   left_by open_messages last a = record {
     own = own;
     device = device;
     timing = timing;
+    pace = pace;
     count = a.count;
     remembered = memo_at own device a;
     open_messages = open_messages;
     last = last;
   }
 
-  held_is : (held : RequesterState) (before : List Call) → IsLeftBy own device timing held before → held ≡ left_by held.open_messages held.last (requests own device timing before)
+  held_is : (held : RequesterState) (before : List Call) → IsLeftBy own device timing pace held before → held ≡ left_by held.open_messages held.last (requests own device timing pace before)
   held_is held before left =
       λ i. record {
         own = left.endpoint i;
         device = left.peer i;
         timing = left.times i;
+        pace = left.paced i;
         count = left.count i;
         remembered = λ n. left.remembered n i;
         open_messages = held.open_messages;
@@ -130,16 +135,18 @@ module _ (own device : ℕ) (timing : Timing) where
     endpoint : held.own ≡ own
     peer : held.device ≡ device
     times : held.timing ≡ timing
+    paced : held.pace ≡ pace
     count : held.count ≡ a.count
     remembered : (n : ℕ) → held.remembered n ≡ memo_at own device a n
     open_messages : histories.IsLeftBy held.open_messages packets
     last : held.last ≡ moment
 
-  leaves_calls : (held : RequesterState) (before : List Call) → Leaves held (requests own device timing before) (assembled own device timing before) (last_moment own device timing before) → IsLeftBy own device timing held before
+  leaves_calls : (held : RequesterState) (before : List Call) → Leaves held (requests own device timing pace before) (assembled own device timing pace before) (last_moment own device timing pace before) → IsLeftBy own device timing pace held before
   leaves_calls held before l = record {
     endpoint = l.endpoint;
     peer = l.peer;
     times = l.times;
+    paced = l.paced;
     count = l.count;
     remembered = l.remembered;
     open_messages = l.open_messages;
@@ -150,21 +157,48 @@ module _ (own device : ℕ) (timing : Timing) where
   tag_is : (open_messages : assembling.OpenMessages) (last : ℕ) (a : Requests) → Recent a → steps.is_tag_in_use (left_by open_messages last a) ≡ calls.is_tag_in_use a
   tag_is open_messages last a f = ap (λ b. nat_le 8 a.count && b) (open_in_is own device a f (a.count - 8))
 
-  id_is : (open_messages : assembling.OpenMessages) (last : ℕ) (a : Requests) (moment : ℕ) → steps.is_id_in_use (left_by open_messages last a) moment ≡ calls.is_id_in_use timing.keep a moment
-  id_is open_messages last a moment = go (nat_le 32 a.count) refl
+  -- the courses of the others that are remembered
+  since_is : (open_messages : assembling.OpenMessages) (last : ℕ) (a : Requests) → steps.courses_since (left_by open_messages last a) ≡ newest (course_at a) a.count 31
+  since_is open_messages last a =
+      newest_same (λ n. course_of (memo_at own device a n)) (course_at a) a.count 31 (λ n l near. ap course_of (memo_there own device a n (recent_from a.count n l (omega arith))))
+
+  -- a test of one that is remembered is a test of it
+  passes_there : (a : Requests) (test : Course → Bool) (n : ℕ) → n < a.count → a.count ≤ n + 32 → passes test (memo_at own device a n) ≡ test (course_at a n)
+  passes_there a test n l near = ap (passes test) (memo_there own device a n (recent_from a.count n l near))
+
+  before_is : (open_messages : assembling.OpenMessages) (last : ℕ) (a : Requests) (moment : ℕ) → steps.has_id_before (left_by open_messages last a) moment ≡ calls.has_id_before timing.keep pace a moment
+  before_is open_messages last a moment =
+      ap (λ xs. nat_le 32 a.count && passes (λ before. is_too_soon timing.keep pace moment before.opening xs) (memo_at own device a (a.count - 32))) (since_is open_messages last a)
+      ∙ go (nat_le 32 a.count) refl
     where
-      go : (b : Bool) → nat_le 32 a.count ≡ b
-          → (b && passes (λ course. nat_lt moment (course.opening + 2 * timing.keep)) (memo_at own device a (a.count - 32))) ≡ (b && nat_lt moment ((a.each (a.count - 32)).course.opening + 2 * timing.keep))
-      go true e =
-          let many = leb-true 32 a.count e in
-          ap (passes (λ course. nat_lt moment (course.opening + 2 * timing.keep))) (memo_there own device a (a.count - 32) (recent_from a.count (a.count - 32) (omega arith) (omega arith)))
+      test : Course → Bool
+      test before = is_too_soon timing.keep pace moment before.opening (newest (course_at a) a.count 31)
+
+      go : (b : Bool) → nat_le 32 a.count ≡ b → (b && passes test (memo_at own device a (a.count - 32))) ≡ (b && test (course_at a (a.count - 32)))
+      go true e = let many = leb-true 32 a.count e in passes_there a test (a.count - 32) (omega arith) (omega arith)
       go false e = refl
 
+  many_is : (open_messages : assembling.OpenMessages) (last : ℕ) (a : Requests) (moment : ℕ) → steps.has_many_before (left_by open_messages last a) moment ≡ calls.has_many_before pace a moment
+  many_is open_messages last a moment = go (nat_lt 0 (stride pace) && nat_le (stride pace) a.count) refl
+    where
+      go : (b : Bool) → (nat_lt 0 (stride pace) && nat_le (stride pace) a.count) ≡ b
+          → (b && passes (is_crowded pace moment) (memo_at own device a (a.count - stride pace))) ≡ (b && is_crowded pace moment (course_at a (a.count - stride pace)))
+      go true e =
+          let parts = and_parts (nat_lt 0 (stride pace)) (nat_le (stride pace) a.count) e in
+          let some = ltb-true 0 (stride pace) parts.0 in
+          let many = leb-true (stride pace) a.count parts.1 in
+          let few = stride_range pace in
+          passes_there a (is_crowded pace moment) (a.count - stride pace) (omega arith) (omega arith)
+      go false e = refl
+
+  id_is : (open_messages : assembling.OpenMessages) (last : ℕ) (a : Requests) (moment : ℕ) → steps.is_id_in_use (left_by open_messages last a) moment ≡ calls.is_id_in_use timing.keep pace a moment
+  id_is open_messages last a moment = λ i. before_is open_messages last a moment i || many_is open_messages last a moment i
+
   answer_is : (open_messages : assembling.OpenMessages) (last : ℕ) (a : Requests) (moment : ℕ) → Recent a
-      → opening_answer (left_by open_messages last a) moment ≡ open_answer (calls.is_tag_in_use a) (calls.is_id_in_use timing.keep a moment) a.count
+      → opening_answer (left_by open_messages last a) moment ≡ open_answer (calls.is_tag_in_use a) (calls.is_id_in_use timing.keep pace a moment) a.count
   answer_is open_messages last a moment f = λ i. open_answer (tag_is open_messages last a f i) (id_is open_messages last a moment i) a.count
 
-  accepts_is : (open_messages : assembling.OpenMessages) (last : ℕ) (a : Requests) (moment : ℕ) → Recent a → steps.accepts (left_by open_messages last a) moment ≡ calls.accepts timing.keep a moment
+  accepts_is : (open_messages : assembling.OpenMessages) (last : ℕ) (a : Requests) (moment : ℕ) → Recent a → steps.accepts (left_by open_messages last a) moment ≡ calls.accepts timing.keep pace a moment
   accepts_is open_messages last a moment f = λ i. not (tag_is open_messages last a f i) && not (id_is open_messages last a moment i)
 
   memo_opened : (a : Requests) (moment : ℕ) (command : Command) (n : ℕ) (new : Memo) → new ≡ memo_of own device (opened a moment command) a.count
@@ -198,6 +232,7 @@ module _ (own device : ℕ) (timing : Timing) where
     endpoint = refl;
     peer = refl;
     times = refl;
+    paced = refl;
     count = omega arith;
     remembered = λ n. memo_opened a moment command n _ (ap (λ (x : Request). record { kind = kind_of x.command; packets = packets_of own device a.count x.command; course = x.course }) (sym (put_here a.each a.count (new_request moment command) a.count refl)));
     open_messages = looks MAX_PACKETS open_messages packets (answer_key device (tag_of a.count)) left;
@@ -231,6 +266,7 @@ module _ (own device : ℕ) (timing : Timing) where
     endpoint = refl;
     peer = refl;
     times = refl;
+    paced = refl;
     count = refl;
     remembered = λ n. memo_changed a (record { count = a.count; each = λ k. ticked_request own device timing moment (a.each k) }) (ticked timing moment) n refl refl refl;
     open_messages = left;
@@ -256,9 +292,9 @@ module _ (own device : ℕ) (timing : Timing) where
   fed_same mine other n feds.Partial same = refl
   fed_same mine other n (feds.Dropped reason) same = refl
 
-  module _ (looks : assembly.FeedLooksBack) (open_messages : assembling.OpenMessages) (last : ℕ) (before : List Call) (left : histories.IsLeftBy open_messages (assembled own device timing before)) where
+  module _ (looks : assembly.FeedLooksBack) (open_messages : assembling.OpenMessages) (last : ℕ) (before : List Call) (left : histories.IsLeftBy open_messages (assembled own device timing pace before)) where
     abbrev now : Requests
-    now = requests own device timing before
+    now = requests own device timing pace before
 
     abbrev Goes : Packet → Type 0
     Goes p = (p.route.tag < 8) × ((n : ℕ) × (calls.goes_to own device timing now p ≡ Some n))
@@ -270,10 +306,10 @@ module _ (own device : ℕ) (timing : Timing) where
         let at = goes p refl in
         let n = at.1.0 in
         let comes = comes_to own device timing now p n at.1.1 in
-        let near = within now n (recent own device timing before) comes.is_open in
+        let near = within now n (recent own device timing pace before) comes.is_open in
         let memo = memo_there own device now n (recent_from now.count n near.0 (omega (arith, near.1))) in
-        let gives = (looks MAX_PACKETS open_messages (assembled own device timing before) p (lit≤ tt) left).0 ∙ ap (λ packets. rows.next packets p) (ap (λ key. histories.since key (assembled own device timing before)) comes.key ∙ fed_since own device timing before n comes.is_open) in
-        ap (λ o. packet_arrival (steps.goes_to (left_by open_messages last now)) (λ number q. assembling.answer open_messages q) (steps.is_mine (left_by open_messages last now)) o p) (goes_is open_messages last now (recent own device timing before) p at.0 ∙ at.1.1)
+        let gives = (looks MAX_PACKETS open_messages (assembled own device timing pace before) p (lit≤ tt) left).0 ∙ ap (λ packets. rows.next packets p) (ap (λ key. histories.since key (assembled own device timing pace before)) comes.key ∙ fed_since own device timing pace before n comes.is_open) in
+        ap (λ o. packet_arrival (steps.goes_to (left_by open_messages last now)) (λ number q. assembling.answer open_messages q) (steps.is_mine (left_by open_messages last now)) o p) (goes_is open_messages last now (recent own device timing pace before) p at.0 ∙ at.1.1)
         ∙ ap (fed_arrival (steps.is_mine (left_by open_messages last now)) n) gives
         ∙ fed_same (steps.is_mine (left_by open_messages last now)) (calls.is_mine own device timing now) n (calls.gives own device timing now n p) (λ response. ap (λ o. is_mine_by n o response) memo)
         ∙ sym (ap (λ o. packet_arrival (calls.goes_to own device timing now) (calls.gives own device timing now) (calls.is_mine own device timing now) o p) at.1.1)
@@ -301,16 +337,17 @@ module _ (own device : ℕ) (timing : Timing) where
             (sym (ap (λ (r : Request). r.command) there ∙ came_command own device timing now read k))
             (sym (ap (λ (r : Request). r.course) there ∙ came_course own device timing now read k))
 
-    opens_is : (read : Result Packet Reason) → histories.IsLeftBy (open_after open_messages read) (with_packet own device timing read (assembled own device timing before))
+    opens_is : (read : Result Packet Reason) → histories.IsLeftBy (open_after open_messages read) (with_packet own device timing read (assembled own device timing pace before))
     opens_is (Err reason) = left
-    opens_is (Ok p) = (looks MAX_PACKETS open_messages (assembled own device timing before) p (lit≤ tt) left).1
+    opens_is (Ok p) = (looks MAX_PACKETS open_messages (assembled own device timing pace before) p (lit≤ tt) left).1
 
     came_leaves : (read : Result Packet Reason) (moment : ℕ) → ((p : Packet) → read ≡ Ok p → Goes p)
-        → Leaves (record (held_by (left_by open_messages last now) read) { last = moment }) (came_by own device timing now read) (with_packet own device timing read (assembled own device timing before)) moment
+        → Leaves (record (held_by (left_by open_messages last now) read) { last = moment }) (came_by own device timing now read) (with_packet own device timing read (assembled own device timing pace before)) moment
     came_leaves read moment goes = record {
       endpoint = refl;
       peer = refl;
       times = refl;
+      paced = refl;
       count = sym (came_by_count own device timing now read);
       remembered = λ k. ap (λ arrival. remembered_after (left_by open_messages last now) arrival k) (arrived_is read goes)
           ∙ remembered_is read (passed_arrival (calls.goes_to own device timing now) (calls.gives own device timing now) (calls.is_mine own device timing now) read) k;
@@ -318,11 +355,12 @@ module _ (own device : ℕ) (timing : Timing) where
       last = refl;
     }
 
-  calls_leave : (held : RequesterState) (before : List Call) → IsLeftBy own device timing held before → Leaves held (requests own device timing before) (assembled own device timing before) (last_moment own device timing before)
+  calls_leave : (held : RequesterState) (before : List Call) → IsLeftBy own device timing pace held before → Leaves held (requests own device timing pace before) (assembled own device timing pace before) (last_moment own device timing pace before)
   calls_leave held before left = record {
     endpoint = left.endpoint;
     peer = left.peer;
     times = left.times;
+    paced = left.paced;
     count = left.count;
     remembered = left.remembered;
     open_messages = left.open_messages;
@@ -332,39 +370,39 @@ module _ (own device : ℕ) (timing : Timing) where
   -- an open that is accepted, or not
   module _ (held : RequesterState) (before : List Call) (moment : ℕ) (command : Command) where
     abbrev requests_by : Bool → Requests
-    requests_by b = cond b (opened (requests own device timing before) moment command) (requests own device timing before)
+    requests_by b = cond b (opened (requests own device timing pace before) moment command) (requests own device timing pace before)
 
     abbrev packets_by : Bool → List histories.Call
-    packets_by b = cond b (histories.forget (answer_key device (tag_of (requests own device timing before).count)) ∷ assembled own device timing before) (assembled own device timing before)
+    packets_by b = cond b (histories.forget (answer_key device (tag_of (requests own device timing pace before).count)) ∷ assembled own device timing pace before) (assembled own device timing pace before)
 
     abbrev last_by : Bool → ℕ
-    last_by b = cond b moment (last_moment own device timing before)
+    last_by b = cond b moment (last_moment own device timing pace before)
 
-    open_leaves : (b : Bool) → calls.accepts timing.keep (requests own device timing before) moment ≡ b → Leaves held (requests_by b) (packets_by b) (last_by b) → IsLeftBy own device timing held (Open moment command ∷ before)
+    open_leaves : (b : Bool) → calls.accepts timing.keep pace (requests own device timing pace before) moment ≡ b → Leaves held (requests_by b) (packets_by b) (last_by b) → IsLeftBy own device timing pace held (Open moment command ∷ before)
     open_leaves b is l = leaves_calls held (Open moment command ∷ before) (subst (λ t. Leaves held (requests_by t) (packets_by t) (last_by t)) (sym is) l)
 
 pub open_looks_back : assembly.ForgetLooksBack → OpenLooksBack
-open_looks_back looks own device timing held before moment command left =
-    let a = requests own device timing before in
-    let f = recent own device timing before in
-    let same = held_is own device timing held before left in
-    let accepted = ap (λ h. steps.accepts h moment) same ∙ accepts_is own device timing held.open_messages held.last a moment f in (
-      ap (λ h. opening_answer h moment) same ∙ answer_is own device timing held.open_messages held.last a moment f,
+open_looks_back looks own device timing pace held before moment command left =
+    let a = requests own device timing pace before in
+    let f = recent own device timing pace before in
+    let same = held_is own device timing pace held before left in
+    let accepted = ap (λ h. steps.accepts h moment) same ∙ accepts_is own device timing pace held.open_messages held.last a moment f in (
+      ap (λ h. opening_answer h moment) same ∙ answer_is own device timing pace held.open_messages held.last a moment f,
       accepted,
-      λ ok. subst (λ h. IsLeftBy own device timing (opened_held h moment command) (Open moment command ∷ before)) (sym same)
-          (open_leaves own device timing (opened_held (left_by own device timing held.open_messages held.last a) moment command) before moment command true (sym accepted ∙ ok) (opened_leaves own device timing looks held.open_messages held.last a (assembled own device timing before) moment command left.open_messages)),
-      λ refused. open_leaves own device timing held before moment command false (sym accepted ∙ refused) (calls_leave own device timing held before left),
+      λ ok. subst (λ h. IsLeftBy own device timing pace (opened_held h moment command) (Open moment command ∷ before)) (sym same)
+          (open_leaves own device timing pace (opened_held (left_by own device timing pace held.open_messages held.last a) moment command) before moment command true (sym accepted ∙ ok) (opened_leaves own device timing pace looks held.open_messages held.last a (assembled own device timing pace before) moment command left.open_messages)),
+      λ refused. open_leaves own device timing pace held before moment command false (sym accepted ∙ refused) (calls_leave own device timing pace held before left),
     )
 
 pub tick_looks_back : TickLooksBack
-tick_looks_back own device timing held before moment left =
-    let a = requests own device timing before in
-    let f = recent own device timing before in
-    let same = held_is own device timing held before left in (
+tick_looks_back own device timing pace held before moment left =
+    let a = requests own device timing pace before in
+    let f = recent own device timing pace before in
+    let same = held_is own device timing pace held before left in (
       ap (λ h. again_at h moment) same ∙ numbers_is own device a (is_sent_again timing moment) (sent_again_open timing moment) f,
       ap (λ h. given_up_at h moment) same ∙ numbers_is own device a (is_given_up timing moment) (given_up_open timing moment) f,
-      subst (λ h. IsLeftBy own device timing (ticked_held h moment) (Tick moment ∷ before)) (sym same)
-          (leaves_calls own device timing (ticked_held (left_by own device timing held.open_messages held.last a) moment) (Tick moment ∷ before) (tick_leaves own device timing held.open_messages held.last a (assembled own device timing before) moment left.open_messages)),
+      subst (λ h. IsLeftBy own device timing pace (ticked_held h moment) (Tick moment ∷ before)) (sym same)
+          (leaves_calls own device timing pace (ticked_held (left_by own device timing pace held.open_messages held.last a) moment) (Tick moment ∷ before) (tick_leaves own device timing pace held.open_messages held.last a (assembled own device timing pace before) moment left.open_messages)),
     )
 
 -- a packet that is read has a tag
@@ -376,27 +414,28 @@ read_tag : (own : ℕ) (bytes : List ℕ) (p : Packet) → reading (Some own) by
 read_tag own bytes p e = tag_by (refusal (Some own) bytes) (packet_of bytes) p (omega arith) e
 
 pub receive_looks_back : assembly.FeedLooksBack → ReceiveLooksBack
-receive_looks_back looks own device timing held before moment bytes left =
-    let a = requests own device timing before in
-    let f = recent own device timing before in
-    let same = held_is own device timing held before left in
+receive_looks_back looks own device timing pace held before moment bytes left =
+    let a = requests own device timing pace before in
+    let f = recent own device timing pace before in
+    let same = held_is own device timing pace held before left in
     let read = calls.passed own device timing a bytes in
     let goes : (p : Packet) → read ≡ Ok p → (p.route.tag < 8) × ((n : ℕ) × (calls.goes_to own device timing a p ≡ Some n)) =
     λ p e. (read_tag own bytes p (expected (λ q. is_some (calls.goes_to own device timing a q)) (reading (Some own) bytes) p e).1, goes_where own device timing a bytes p e) in
-    let passed = passed_is own device timing held.open_messages held.last a f (reading (Some own) bytes) (read_tag own bytes) in
-    let h0 = left_by own device timing held.open_messages held.last a in (
-      ap (λ h. got_at h bytes) same ∙ ap (λ r. got_of (arrived_by h0 r)) passed ∙ ap got_of (arrived_is own device timing looks held.open_messages held.last before left.open_messages read goes),
-      subst (λ h. IsLeftBy own device timing (received_held h moment bytes) (Receive moment bytes ∷ before)) (sym same)
-          (leaves_calls own device timing (received_held h0 moment bytes) (Receive moment bytes ∷ before)
-          (subst (λ r. Leaves own device timing (record (held_by h0 r) { last = moment }) (came_by own device timing a read) (with_packet own device timing read (assembled own device timing before)) moment) (sym passed)
-          (came_leaves own device timing looks held.open_messages held.last before left.open_messages read moment goes))),
+    let passed = passed_is own device timing pace held.open_messages held.last a f (reading (Some own) bytes) (read_tag own bytes) in
+    let h0 = left_by own device timing pace held.open_messages held.last a in (
+      ap (λ h. got_at h bytes) same ∙ ap (λ r. got_of (arrived_by h0 r)) passed ∙ ap got_of (arrived_is own device timing pace looks held.open_messages held.last before left.open_messages read goes),
+      subst (λ h. IsLeftBy own device timing pace (received_held h moment bytes) (Receive moment bytes ∷ before)) (sym same)
+          (leaves_calls own device timing pace (received_held h0 moment bytes) (Receive moment bytes ∷ before)
+          (subst (λ r. Leaves own device timing pace (record (held_by h0 r) { last = moment }) (came_by own device timing a read) (with_packet own device timing read (assembled own device timing pace before)) moment) (sym passed)
+          (came_leaves own device timing pace looks held.open_messages held.last before left.open_messages read moment goes))),
     )
 
 pub new_looks_back : assembly.NewLooksBack → NewLooksBack
-new_looks_back looks own device timing = record {
+new_looks_back looks own device timing pace = record {
   endpoint = refl;
   peer = refl;
   times = refl;
+  paced = refl;
   count = refl;
   remembered = λ n. sym (cond-false (is_recent 0 n) _ _ (and_left (nat_lt n 0) _ (le-ltb n 0 (omega arith))));
   open_messages = looks MAX_PACKETS;
@@ -404,12 +443,13 @@ new_looks_back looks own device timing = record {
 }
 
 pub same_is_left : SameIsLeft
-same_is_left own device timing new held before same left = record {
+same_is_left own device timing pace new held before same left = record {
   endpoint = same.own ∙ left.endpoint;
   peer = same.device ∙ left.peer;
   times = same.timing ∙ left.times;
+  paced = same.pace ∙ left.paced;
   count = same.count ∙ left.count;
   remembered = λ n. same.remembered n ∙ left.remembered n;
-  open_messages = subst (λ x. histories.IsLeftBy x (assembled own device timing before)) (sym same.open_messages) left.open_messages;
+  open_messages = subst (λ x. histories.IsLeftBy x (assembled own device timing pace before)) (sym same.open_messages) left.open_messages;
   last = same.last ∙ left.last;
 }

@@ -17,6 +17,7 @@ use Rattle.pldm_requester.specs.Calls.{Call, Open, Tick, Receive, Request, Reque
 use Rattle.pldm_requester.specs.Courses.{is_open}
 use Rattle.pldm_requester.specs.Laws.{FedSinceItsOpening, BeginsWithNone}
 use Rattle.pldm_requester.specs.Numbering.{tag_of}
+use Rattle.pldm_requester.specs.declared.pace.Pace.{Pace}
 use Rattle.pldm_requester.specs.declared.timing.Timing.{Timing}
 use Rattle.pldm_requester.proofs.KeyOrder.{same_key, other_key}
 use Rattle.pldm_requester.proofs.OpenRequests.{put_here, put_other, shut_stays, Recent, within, recent, recent_opened, accepted_tag, answered_fed, came_by, came_by_shut}
@@ -92,12 +93,12 @@ module _ (own device : ℕ) (timing : Timing) where
   abbrev Fed : Requests → List assembly.Call → Type 0
   Fed a packets = (n : ℕ) → is_open_at a n ≡ true → assembly.since (answer_key device (tag_of n)) packets ≡ (a.each n).fed
 
-  fed_opened : (a : Requests) (packets : List assembly.Call) (moment : ℕ) (command : Command) → Recent a → accepts timing.keep a moment ≡ true → Fed a packets
+  fed_opened : (pace : Pace) (a : Requests) (packets : List assembly.Call) (moment : ℕ) (command : Command) → Recent a → accepts timing.keep pace a moment ≡ true → Fed a packets
       → Fed (opened a moment command) (assembly.forget (answer_key device (tag_of a.count)) ∷ packets)
-  fed_opened a packets moment command f ok fed n now = go (cases_eq n a.count)
+  fed_opened pace a packets moment command f ok fed n now = go (cases_eq n a.count)
     where
       new : Recent (opened a moment command)
-      new = recent_opened a moment command f (accepted_tag timing.keep a moment ok)
+      new = recent_opened a moment command f (accepted_tag timing.keep pace a moment ok)
 
       go : (n ≡ a.count) ⊎ (n ≡ a.count → ⊥) → assembly.since (answer_key device (tag_of n)) (assembly.forget (answer_key device (tag_of a.count)) ∷ packets) ≡ (put a.each a.count (new_request moment command) n).fed
       go (inl same) =
@@ -141,26 +142,27 @@ module _ (own device : ℕ) (timing : Timing) where
       ∙ sym (ap (λ o. ((fed_to own device timing a p o).each n).fed) at.1)
       ∙ sym (answered_fed own device timing (fed_by own device timing a (Ok p)) (passed_arrival (goes_to own device timing a) (gives own device timing a) (is_mine own device timing a) (Ok p)) n)
 
-  pub fed_since : (calls : List Call) → Fed (requests own device timing calls) (assembled own device timing calls)
+module _ (own device : ℕ) (timing : Timing) (pace : Pace) where
+  pub fed_since : (calls : List Call) → Fed own device timing (requests own device timing pace calls) (assembled own device timing pace calls)
   fed_since [] = λ n now. absurd (cc)
-  fed_since (Open moment command ∷ calls) = go (accepts timing.keep (requests own device timing calls) moment) refl (fed_since calls)
+  fed_since (Open moment command ∷ calls) = go (accepts timing.keep pace (requests own device timing pace calls) moment) refl (fed_since calls)
     where
-      go : (b : Bool) → accepts timing.keep (requests own device timing calls) moment ≡ b → Fed (requests own device timing calls) (assembled own device timing calls)
-          → Fed (cond b (opened (requests own device timing calls) moment command) (requests own device timing calls)) (cond b (assembly.forget (answer_key device (tag_of (requests own device timing calls).count)) ∷ assembled own device timing calls) (assembled own device timing calls))
-      go true ok fed = fed_opened (requests own device timing calls) (assembled own device timing calls) moment command (recent own device timing calls) ok fed
+      go : (b : Bool) → accepts timing.keep pace (requests own device timing pace calls) moment ≡ b → Fed own device timing (requests own device timing pace calls) (assembled own device timing pace calls)
+          → Fed own device timing (cond b (opened (requests own device timing pace calls) moment command) (requests own device timing pace calls)) (cond b (assembly.forget (answer_key device (tag_of (requests own device timing pace calls).count)) ∷ assembled own device timing pace calls) (assembled own device timing pace calls))
+      go true ok fed = fed_opened own device timing pace (requests own device timing pace calls) (assembled own device timing pace calls) moment command (recent own device timing pace calls) ok fed
       go false ok fed = fed
   fed_since (Tick moment ∷ calls) =
-      let a = requests own device timing calls in
-      λ n now. fed_since calls n (still_open a (after_call own device timing a (Tick moment)) n (λ shut. ap is_open (shut_stays timing moment (a.each n).course shut) ∙ shut) now)
+      let a = requests own device timing pace calls in
+      λ n now. fed_since calls n (still_open a (after_call own device timing pace a (Tick moment)) n (λ shut. ap is_open (shut_stays timing moment (a.each n).course shut) ∙ shut) now)
   fed_since (Receive moment bytes ∷ calls) =
-      let a = requests own device timing calls in
-      fed_received a (assembled own device timing calls) (passed own device timing a bytes) (recent own device timing calls) (λ p e. goes_where own device timing a bytes p e) (fed_since calls)
+      let a = requests own device timing pace calls in
+      fed_received own device timing a (assembled own device timing pace calls) (passed own device timing a bytes) (recent own device timing pace calls) (λ p e. goes_where own device timing a bytes p e) (fed_since calls)
 
 pub fed_since_its_opening : FedSinceItsOpening
-fed_since_its_opening own device timing calls number now = fed_since own device timing calls number now
+fed_since_its_opening own device timing pace calls number now = fed_since own device timing pace calls number now
 
 pub begins_with_none : BeginsWithNone
-begins_with_none own device timing calls moment command ok =
-    let tag = tag_of (requests own device timing calls).count in
-    ap (assembly.since (answer_key device tag)) (cond-true (accepts timing.keep (requests own device timing calls) moment) _ _ ok)
-    ∙ since_forgotten (assembled own device timing calls) device tag
+begins_with_none own device timing pace calls moment command ok =
+    let tag = tag_of (requests own device timing pace calls).count in
+    ap (assembly.since (answer_key device tag)) (cond-true (accepts timing.keep pace (requests own device timing pace calls) moment) _ _ ok)
+    ∙ since_forgotten (assembled own device timing pace calls) device tag

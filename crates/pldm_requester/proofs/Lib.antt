@@ -4,9 +4,12 @@ pub mod SlotSteps
 pub mod TickedSlots
 pub mod KeyOrder
 pub mod WorkedRows
+pub mod NewestRequests
 pub mod OpenRequests
 pub mod TagSearch
 pub mod FedPackets
 pub mod Moments
 pub mod CallsLookBack
 pub mod NextDeadlines
+pub mod Processes
+pub mod ResumedOpenings

@@ -9,6 +9,7 @@ use Rattle.pldm_requester.specs.Courses.{Course, is_open, is_over, is_given_up, 
 use Rattle.pldm_requester.specs.Deadlines.{IsBefore, IsDeadline, IsDueAt, IsEarliest, IsIdleAt, SleepMissesNothing, is_due, is_reached}
 use Rattle.pldm_requester.specs.Slots.{RequesterView, IsStation, held_of, remembered_in}
 use Rattle.pldm_requester.specs.Steps.{Memo, RequesterState, is_recent, passes, ticked_held, with_course}
+use Rattle.pldm_requester.specs.declared.pace.Pace.{Pace}
 use Rattle.pldm_requester.specs.declared.timing.Timing.{Timing}
 use Rattle.pldm_requester.proofs.SlotLists.{recent_parts}
 use Rattle.pldm_requester.proofs.OpenRequests.{open_are_opened, shut_stays}
@@ -187,12 +188,12 @@ deadline_stays held deadline moment idle at =
     let same : record held { last = moment } ≡ ticked_held held moment = λ i. record held { remembered = λ n. sym (idle.same n) i; last = moment } in
     subst (λ (h : RequesterState). IsDeadline h deadline) same (deadline_moved held moment deadline at)
 
-module _ (own device : ℕ) (timing : Timing) (calls : List Call) (moment : ℕ) where
+module _ (own device : ℕ) (timing : Timing) (pace : Pace) (calls : List Call) (moment : ℕ) where
   abbrev all : ℕ → Request
-  all = (requests own device timing calls).each
+  all = (requests own device timing pace calls).each
 
   abbrev count : ℕ
-  count = (requests own device timing calls).count
+  count = (requests own device timing pace calls).count
 
   course_stays : filter (λ n. is_sent_again timing moment (all n).course) (range_with_len 0 count) ≡ [] → filter (λ n. is_given_up timing moment (all n).course) (range_with_len 0 count) ≡ []
       → (n : ℕ) → ticked timing moment (all n).course ≡ (all n).course
@@ -201,17 +202,17 @@ module _ (own device : ℕ) (timing : Timing) (calls : List Call) (moment : ℕ)
       stays timing moment (all n).course
       (filter_each (λ n. is_given_up timing moment (all n).course) 0 count n given (omega arith) (omega arith))
       (filter_each (λ n. is_sent_again timing moment (all n).course) 0 count n again (omega arith) (omega arith)))
-      (λ (l : count ≤ n). shut_stays timing moment (all n).course (open_are_opened own device timing calls n l))
+      (λ (l : count ≤ n). shut_stays timing moment (all n).course (open_are_opened own device timing pace calls n l))
       (cases_lt n count)
 
 pub sleep_misses_nothing : SleepMissesNothing
-sleep_misses_nothing own device timing held calls deadline moment left at before =
+sleep_misses_nothing own device timing pace held calls deadline moment left at before =
     let idle = idle_before held deadline moment at before in
-    let back = tick_looks_back own device timing held calls moment left in
+    let back = tick_looks_back own device timing pace held calls moment left in
     let again = sym back.0 ∙ idle.again in
     let given = sym back.1 ∙ idle.given_up in (
       again,
       given,
-      λ n. ap (λ (c : Course). record { command = (all own device timing calls moment n).command; course = c; fed = (all own device timing calls moment n).fed }) (course_stays own device timing calls moment again given n),
+      λ n. ap (λ (c : Course). record { command = (all own device timing pace calls moment n).command; course = c; fed = (all own device timing pace calls moment n).fed }) (course_stays own device timing pace calls moment again given n),
       deadline_stays held deadline moment idle at,
     )

@@ -7,8 +7,9 @@ use Rattle.mctp_packet.specs.declared.reason.Reason.{Reason}
 use Rattle.pldm_wire.specs.declared.command.Command.{Command}
 use Rattle.pldm_requester.specs.Arrivals.{Arrival, Drop, Part, Answer, passed_arrival}
 use Rattle.pldm_requester.specs.Calls.{Call, Open, Tick, Receive, Request, Requests, none_yet, new_request, put, opened, is_open_at, is_tag_in_use, is_id_in_use, accepts, goes_to, passed, gives, is_mine, fed_to, fed_by, answered_by, received, after_call, requests}
-use Rattle.pldm_requester.specs.Courses.{Course, is_open, is_over, is_given_up, is_sent_again, given_up, sent_again, ticked}
+use Rattle.pldm_requester.specs.Courses.{Course, Progress, Waiting, Answered, GaveUp, is_open, is_waiting, is_answered, has_answer, is_over, is_given_up, is_sent_again, given_up, sent_again, ticked}
 use Rattle.pldm_requester.specs.Laws.{OpenAreRecent, OpenAreOpened, OneOnEachTag}
+use Rattle.pldm_requester.specs.declared.pace.Pace.{Pace}
 use Rattle.pldm_requester.specs.declared.timing.Timing.{Timing}
 
 -- ---- one course
@@ -28,6 +29,15 @@ given_up_open timing moment course e = (and_parts (is_open course) (is_over timi
 pub sent_again_open : (timing : Timing) (moment : ℕ) (course : Course) → is_sent_again timing moment course ≡ true → is_open course ≡ true
 sent_again_open timing moment course e =
     (and_parts (is_open course) (not (is_over timing moment course)) (and_parts (is_open course && not (is_over timing moment course)) _ e).0).0
+
+answered_is_shut : (progress : Progress) → has_answer progress ≡ true → is_waiting progress ≡ false
+answered_is_shut Waiting e = absurd (cc)
+answered_is_shut (Answered message) e = refl
+answered_is_shut GaveUp e = refl
+
+pub ticked_answered : (timing : Timing) (moment : ℕ) (course : Course) → is_answered course ≡ true → is_answered (ticked timing moment course) ≡ true
+ticked_answered timing moment course e =
+    ap is_answered (shut_stays timing moment course (answered_is_shut course.progress e)) ∙ e
 
 -- ---- another request in a place
 pub put_here : (each : ℕ → Request) (n : ℕ) (r : Request) (k : ℕ) → k ≡ n → put each n r k ≡ r
@@ -84,6 +94,15 @@ module _ (own device : ℕ) (timing : Timing) (a : Requests) where
   answered_opening Part k = refl
   answered_opening (Answer n message) k = put_keeps (λ (r : Request). r.course.opening) a.each n _ k refl
 
+  pub answered_stays : (arrival : Arrival) (k : ℕ) → is_answered (a.each k).course ≡ true → is_answered ((answered_by own device timing a arrival).each k).course ≡ true
+  answered_stays (Drop reason) k e = e
+  answered_stays Part k e = e
+  answered_stays (Answer n message) k e =
+      ⊎_elim
+      (λ (same : k ≡ n). ap (λ (r : Request). is_answered r.course) (put_here a.each n _ k same))
+      (λ (other : k ≡ n → ⊥). ap (λ (r : Request). is_answered r.course) (put_other a.each n _ k other) ∙ e)
+      (cases_eq k n)
+
   pub answered_fed : (arrival : Arrival) (k : ℕ) → ((answered_by own device timing a arrival).each k).fed ≡ (a.each k).fed
   answered_fed (Drop reason) k = refl
   answered_fed Part k = refl
@@ -109,6 +128,10 @@ module _ (own device : ℕ) (timing : Timing) (a : Requests) where
   pub came_by_opening : (read : Result Packet Reason) (k : ℕ) → ((came_by read).each k).course.opening ≡ (a.each k).course.opening
   came_by_opening read k =
       answered_opening own device timing (fed_by own device timing a read) _ k ∙ ap (λ (c : Course). c.opening) (came_course own device timing a read k)
+
+  pub came_by_answered : (read : Result Packet Reason) (k : ℕ) → is_answered (a.each k).course ≡ true → is_answered ((came_by read).each k).course ≡ true
+  came_by_answered read k e =
+      answered_stays own device timing (fed_by own device timing a read) _ k (ap is_answered (came_course own device timing a read k) ∙ e)
 
 -- ---- only the last eight that were opened
 pub record Recent (a : Requests) : Type 0 where
@@ -153,34 +176,36 @@ recent_same a b f same shut = record {
   unopened = λ n l. shut n (f.unopened n (omega (arith, same)));
 }
 
-pub accepted_tag : (keep : ℕ) (a : Requests) (moment : ℕ) → accepts keep a moment ≡ true → is_tag_in_use a ≡ false
-accepted_tag keep a moment ok = not-true _ (and_parts (not (is_tag_in_use a)) (not (is_id_in_use keep a moment)) ok).0
+pub accepted_tag : (keep : ℕ) (pace : Pace) (a : Requests) (moment : ℕ) → accepts keep pace a moment ≡ true → is_tag_in_use a ≡ false
+accepted_tag keep pace a moment ok =
+    not-true _ (and_parts (not (is_tag_in_use a)) (not (is_id_in_use keep pace a moment)) ok).0
 
-pub accepted_id : (keep : ℕ) (a : Requests) (moment : ℕ) → accepts keep a moment ≡ true → is_id_in_use keep a moment ≡ false
-accepted_id keep a moment ok = not-true _ (and_parts (not (is_tag_in_use a)) (not (is_id_in_use keep a moment)) ok).1
+pub accepted_id : (keep : ℕ) (pace : Pace) (a : Requests) (moment : ℕ) → accepts keep pace a moment ≡ true → is_id_in_use keep pace a moment ≡ false
+accepted_id keep pace a moment ok =
+    not-true _ (and_parts (not (is_tag_in_use a)) (not (is_id_in_use keep pace a moment)) ok).1
 
-module _ (own device : ℕ) (timing : Timing) where
-  recent_after : (a : Requests) (call : Call) → Recent a → Recent (after_call own device timing a call)
+module _ (own device : ℕ) (timing : Timing) (pace : Pace) where
+  recent_after : (a : Requests) (call : Call) → Recent a → Recent (after_call own device timing pace a call)
   recent_after a (Open moment command) f =
-      cond_both (accepts timing.keep a moment) (opened a moment command) a Recent (λ ok. recent_opened a moment command f (accepted_tag timing.keep a moment ok)) (λ _. f)
+      cond_both (accepts timing.keep pace a moment) (opened a moment command) a Recent (λ ok. recent_opened a moment command f (accepted_tag timing.keep pace a moment ok)) (λ _. f)
   recent_after a (Tick moment) f =
-      recent_same a (after_call own device timing a (Tick moment)) f refl (λ n shut. ap is_open (shut_stays timing moment (a.each n).course shut) ∙ shut)
+      recent_same a (after_call own device timing pace a (Tick moment)) f refl (λ n shut. ap is_open (shut_stays timing moment (a.each n).course shut) ∙ shut)
   recent_after a (Receive moment bytes) f =
       recent_same a (received own device timing a bytes) f (came_by_count own device timing a (passed own device timing a bytes)) (λ n shut. came_by_shut own device timing a (passed own device timing a bytes) n shut)
 
-  pub recent : (calls : List Call) → Recent (requests own device timing calls)
+  pub recent : (calls : List Call) → Recent (requests own device timing pace calls)
   recent [] = recent_none
-  recent (call ∷ calls) = recent_after (requests own device timing calls) call (recent calls)
+  recent (call ∷ calls) = recent_after (requests own device timing pace calls) call (recent calls)
 
 pub open_are_recent : OpenAreRecent
-open_are_recent own device timing calls number l = (recent own device timing calls).closed number l
+open_are_recent own device timing pace calls number l = (recent own device timing pace calls).closed number l
 
 pub open_are_opened : OpenAreOpened
-open_are_opened own device timing calls number l = (recent own device timing calls).unopened number l
+open_are_opened own device timing pace calls number l = (recent own device timing pace calls).unopened number l
 
 pub one_on_each_tag : OneOnEachTag
-one_on_each_tag own device timing calls number other g h same =
-    let a = requests own device timing calls in
-    let b = within a number (recent own device timing calls) g in
-    let c = within a other (recent own device timing calls) h in
+one_on_each_tag own device timing pace calls number other g h same =
+    let a = requests own device timing pace calls in
+    let b = within a number (recent own device timing pace calls) g in
+    let c = within a other (recent own device timing pace calls) h in
     omega (arith, b.0, b.1, c.0, c.1, same)

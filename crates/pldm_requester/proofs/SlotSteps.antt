@@ -12,7 +12,6 @@ use Rattle.mctp_packet.specs.declared.reason.Reason.TheVariants.{NotMine, NotRea
 use Rattle.mctp_packet.specs.Pieces.{written_packets}
 use Rattle.mctp_assembly.specs.Steps as assembly
 use Rattle.pldm_wire.specs.Commands.{kind_of, command_message}
-use Rattle.pldm_wire.specs.Kinds.{TypeAndCommand}
 use Rattle.pldm_wire.specs.Responses.{Response, response_of}
 use Rattle.pldm_wire.specs.declared.command.Command.{Command}
 use Rattle.pldm_requester.specs.Arrivals.{Drop, Answer, response_arrival}
@@ -48,6 +47,7 @@ answered_held station number message response memo seen read mine other same at 
   own = refl;
   device = refl;
   timing = refl;
+  pace = refl;
   count = refl;
   remembered = λ k.
       remembered_in-set station.count number k station.slots (with_course (answered message) memo) parts.0 within
@@ -99,6 +99,7 @@ shut_opened station n memo is free old =
 pub opened_station : (station : RequesterView) (now : ℕ) (memo : Memo) (open_messages : assembly.OpenMessages) → IsStation station → memo.course.opening ≡ now → station.count < most_opened now → is_tag_in_use (held_of station) ≡ false
     → IsStation (record station { count = station.count + 1; slots = put_slot station.count station.slots memo; open_messages = open_messages; last = now })
 opened_station station now memo open_messages is at few free = record {
+  pace = is.pace;
   slots = AreSlots-put station.count station.slots memo is.slots;
   few = omega arith;
   paced = λ n. subst (IsPaced n) (sym (remembered_in-put station.count n station.slots memo is.slots))
@@ -114,6 +115,7 @@ opened_is_held station now command slots open_messages are put forgot = record {
   own = refl;
   device = refl;
   timing = refl;
+  pace = refl;
   count = refl;
   remembered = λ n. ap (λ xs. remembered_in (station.count + 1) xs n) put ∙ remembered_in-put station.count n station.slots (new_memo (held_of station) now command) are;
   open_messages = forgot;

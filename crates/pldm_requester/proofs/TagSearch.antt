@@ -57,8 +57,8 @@ module _ (opens : ℕ → Bool) (count : ℕ) (closed : (n : ℕ) → n + 8 < co
       go false e = sym (none_low tag small count (ltb-false tag count e))
 
 pub found_on_its_tag : FoundOnItsTag
-found_on_its_tag own device timing calls number l near =
-    let a = requests own device timing calls in found (is_open_at a) a.count (recent own device timing calls).closed number l near
+found_on_its_tag own device timing pace calls number l near =
+    let a = requests own device timing pace calls in found (is_open_at a) a.count (recent own device timing pace calls).closed number l near
 
 -- ---- what is found is open, and has the tag
 pub open_on_some : (opens : ℕ → Bool) (c tag n : ℕ) → open_on opens c tag ≡ Some n → (opens n ≡ true) × (tag_of n ≡ tag)

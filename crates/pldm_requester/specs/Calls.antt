@@ -1,6 +1,6 @@
 -- What a requester owes, read by looking back over the list of all its calls, the newest first. All requests are named
 -- by their numbers, however long ago they were opened.
-use Rattle.std.specs.Prelude.{ℕ, zero, suc, ◌+◌, ◌-◌, ◌*◌, false, Bool, ◌&&◌, not, ◌==◌, nat_lt, nat_le, List, [], ◌∷◌, filter, Option, Some, None, is_some, Result, Ok, Err, if◌then◌else◌}
+use Rattle.std.specs.Prelude.{ℕ, zero, suc, ◌-◌, false, Bool, ◌&&◌, ◌||◌, not, ◌==◌, nat_lt, nat_le, List, [], ◌∷◌, filter, Option, Some, None, is_some, Result, Ok, Err, if◌then◌else◌}
 use Rattle.std.specs.List.{range_with_len}
 use Rattle.mctp_packet.specs.Packets.{Packet}
 use Rattle.mctp_packet.specs.Passing.{passing}
@@ -16,12 +16,14 @@ use Rattle.pldm_wire.specs.declared.assigned.TheConstants.{INSTANCE_IDS}
 use Rattle.pldm_wire.specs.declared.command.Command.{Command}
 use Rattle.pldm_wire.specs.declared.command.Command.TheVariants.{GetTid}
 use Rattle.pldm_requester.specs.Numbering.{tag_of, opened_as}
-use Rattle.pldm_requester.specs.Courses.{GaveUp, Course, is_open, begun, is_given_up, is_sent_again, ticked, answered}
+use Rattle.pldm_requester.specs.Courses.{Course, no_course, is_open, begun, is_given_up, is_sent_again, ticked, answered}
+use Rattle.pldm_requester.specs.Pacing.{newest, is_too_soon, stride, is_crowded}
 use Rattle.pldm_requester.specs.Arrivals.{Arrival, Drop, Part, Answer, got_of, is_response_to, passed_arrival}
 use Rattle.pldm_requester.specs.declared.results.Got.{Got}
 use Rattle.pldm_requester.specs.declared.results.Opened.{Opened}
 use Rattle.pldm_requester.specs.declared.results.OpenFault.{OpenFault}
 use Rattle.pldm_requester.specs.declared.results.OpenFault.TheVariants.{TagInUse, IdInUse}
+use Rattle.pldm_requester.specs.declared.pace.Pace.{Pace}
 use Rattle.pldm_requester.specs.declared.timing.Timing.{Timing}
 
 -- each with its moment: a command to be opened as a request, a tick, and bytes that were received
@@ -43,8 +45,7 @@ pub record Requests : Type 0 where
 
 -- what stands at a number that is not given yet
 abbrev pub no_request : Request
-no_request =
-    record { command = GetTid; course = record { opening = 0; last_sent = 0; progress = GaveUp }; fed = [] }
+no_request = record { command = GetTid; course = no_course; fed = [] }
 
 abbrev pub none_yet : Requests
 none_yet = record { count = 0; each = λ n. no_request }
@@ -69,13 +70,28 @@ is_open_at a n = is_open (a.each n).course
 abbrev pub is_tag_in_use : Requests → Bool
 is_tag_in_use a = nat_le TAGS a.count && is_open_at a (a.count - TAGS)
 
--- the last request with the new one's instance ID was opened less than twice the keeping time ago
-abbrev pub is_id_in_use : ℕ → Requests → ℕ → Bool
-is_id_in_use keep a moment =
-    nat_le INSTANCE_IDS a.count && nat_lt moment ((a.each (a.count - INSTANCE_IDS)).course.opening + 2 * keep)
+abbrev pub course_at : Requests → ℕ → Course
+course_at a n = (a.each n).course
 
-abbrev pub accepts : ℕ → Requests → ℕ → Bool
-accepts keep a moment = not (is_tag_in_use a) && not (is_id_in_use keep a moment)
+-- the last request with the new one's instance ID came too short a time ago
+abbrev pub has_id_before : ℕ → Pace → Requests → ℕ → Bool
+has_id_before keep pace a moment =
+    nat_le INSTANCE_IDS a.count
+    && is_too_soon keep pace moment (course_at a (a.count - INSTANCE_IDS)).opening
+    (newest (course_at a) a.count (INSTANCE_IDS - 1))
+
+-- too many came in the last lifetime, where requests are spread
+abbrev pub has_many_before : Pace → Requests → ℕ → Bool
+has_many_before pace a moment =
+    nat_lt 0 (stride pace) && nat_le (stride pace) a.count
+    && is_crowded pace moment (course_at a (a.count - stride pace))
+
+-- the new one's instance ID is not free yet
+abbrev pub is_id_in_use : ℕ → Pace → Requests → ℕ → Bool
+is_id_in_use keep pace a moment = has_id_before keep pace a moment || has_many_before pace a moment
+
+abbrev pub accepts : ℕ → Pace → Requests → ℕ → Bool
+accepts keep pace a moment = not (is_tag_in_use a) && not (is_id_in_use keep pace a moment)
 
 -- what an open answers, by whether its tag and its instance ID are in use
 abbrev pub open_answer : Bool → Bool → ℕ → Result Opened OpenFault
@@ -142,10 +158,17 @@ module _ (own device : ℕ) (timing : Timing) where
   ticked_request moment request =
       record { command = request.command; course = ticked timing moment request.course; fed = request.fed }
 
+  -- a packet that passed the checks comes to assembly
+  abbrev pub with_packet : Result Packet Reason → List assembly.Call → List assembly.Call
+  with_packet (Ok p) packets = assembly.feed p ∷ packets
+  with_packet (Err reason) packets = packets
+
+module _ (own device : ℕ) (timing : Timing) (pace : Pace) where
   abbrev pub after_call : Requests → Call → Requests
-  after_call a (Open moment command) = if accepts timing.keep a moment then opened a moment command else a
-  after_call a (Tick moment) = record { count = a.count; each = λ n. ticked_request moment (a.each n) }
-  after_call a (Receive moment bytes) = received a bytes
+  after_call a (Open moment command) = if accepts timing.keep pace a moment then opened a moment command else a
+  after_call a (Tick moment) =
+      record { count = a.count; each = λ n. ticked_request own device timing moment (a.each n) }
+  after_call a (Receive moment bytes) = received own device timing a bytes
 
   -- the requests after these calls
   abbrev pub requests : List Call → Requests
@@ -156,29 +179,25 @@ module _ (own device : ℕ) (timing : Timing) where
   abbrev pub last_moment : List Call → ℕ
   last_moment [] = 0
   last_moment (Open moment command ∷ calls) =
-      if accepts timing.keep (requests calls) moment then moment else last_moment calls
+      if accepts timing.keep pace (requests calls) moment then moment else last_moment calls
   last_moment (Tick moment ∷ calls) = moment
   last_moment (Receive moment bytes ∷ calls) = moment
-
-  -- a packet that passed the checks comes to assembly
-  abbrev pub with_packet : Result Packet Reason → List assembly.Call → List assembly.Call
-  with_packet (Ok p) packets = assembly.feed p ∷ packets
-  with_packet (Err reason) packets = packets
 
   -- what came to assembly: the packets that passed, and at each accepted open its tag is forgotten
   abbrev pub assembled : List Call → List assembly.Call
   assembled [] = []
   assembled (Open moment command ∷ calls) =
-      if accepts timing.keep (requests calls) moment
+      if accepts timing.keep pace (requests calls) moment
       then assembly.forget (answer_key device (tag_of (requests calls).count)) ∷ assembled calls
       else assembled calls
   assembled (Tick moment ∷ calls) = assembled calls
-  assembled (Receive moment bytes ∷ calls) = with_packet (passed (requests calls) bytes) (assembled calls)
+  assembled (Receive moment bytes ∷ calls) =
+      with_packet own device timing (passed own device timing (requests calls) bytes) (assembled calls)
 
   -- what an open at a moment answers after these calls
   abbrev pub open_expected : List Call → ℕ → Result Opened OpenFault
   open_expected calls moment =
-      open_answer (is_tag_in_use (requests calls)) (is_id_in_use timing.keep (requests calls) moment)
+      open_answer (is_tag_in_use (requests calls)) (is_id_in_use timing.keep pace (requests calls) moment)
       (requests calls).count
 
   -- which requests a tick at a moment sends again, and which it gives up
@@ -190,4 +209,4 @@ module _ (own device : ℕ) (timing : Timing) where
 
   -- what bytes that are received give after these calls
   abbrev pub got_expected : List Call → List ℕ → Got
-  got_expected calls bytes = got_of (arrived (requests calls) bytes)
+  got_expected calls bytes = got_of (arrived own device timing (requests calls) bytes)

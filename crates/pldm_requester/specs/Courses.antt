@@ -22,6 +22,18 @@ is_waiting GaveUp = false
 abbrev pub is_open : Course → Bool
 is_open course = is_waiting course.progress
 
+abbrev pub has_answer : Progress → Bool
+has_answer Waiting = false
+has_answer (Answered message) = true
+has_answer GaveUp = false
+
+abbrev pub is_answered : Course → Bool
+is_answered course = has_answer course.progress
+
+-- what stands for a request that was not opened
+abbrev pub no_course : Course
+no_course = record { opening = 0; last_sent = 0; progress = GaveUp }
+
 abbrev pub begun : ℕ → Course
 begun moment = record { opening = moment; last_sent = moment; progress = Waiting }
 

@@ -7,6 +7,7 @@ use Rattle.pldm_requester.specs.Laws.{IsLeftBy}
 use Rattle.pldm_requester.specs.Slots.{remembered_in}
 use Rattle.pldm_requester.specs.Steps.{Memo, RequesterState, again_at, given_up_at, passes, ticked_held}
 use Rattle.pldm_requester.specs.declared.requester.TheConstants.{MAX_OPEN}
+use Rattle.pldm_requester.specs.declared.pace.Pace.{Pace}
 use Rattle.pldm_requester.specs.declared.timing.Timing.{Timing}
 
 -- a tick at this moment finds nothing due, and changes no request
@@ -35,12 +36,13 @@ IsBefore moment (Some deadline) = moment < deadline
 -- old, and the deadline stays the same
 abbrev pub SleepMissesNothing : Type 0
 SleepMissesNothing =
-    (own device : ℕ) (timing : Timing) (held : RequesterState) (calls : List Call) (deadline : Option ℕ) (moment : ℕ)
-    → IsLeftBy own device timing held calls → IsDeadline held deadline → IsBefore moment deadline
-    → (again_expected own device timing calls moment ≡ [])
-    × (given_up_expected own device timing calls moment ≡ [])
-    × ((number : ℕ) → (requests own device timing (Tick moment ∷ calls)).each number
-    ≡ (requests own device timing calls).each number)
+    (own device : ℕ) (timing : Timing) (pace : Pace) (held : RequesterState) (calls : List Call) (deadline : Option ℕ)
+    (moment : ℕ)
+    → IsLeftBy own device timing pace held calls → IsDeadline held deadline → IsBefore moment deadline
+    → (again_expected own device timing pace calls moment ≡ [])
+    × (given_up_expected own device timing pace calls moment ≡ [])
+    × ((number : ℕ) → (requests own device timing pace (Tick moment ∷ calls)).each number
+    ≡ (requests own device timing pace calls).each number)
     × IsDeadline (ticked_held held moment) deadline
 
 -- ---- one request after the other

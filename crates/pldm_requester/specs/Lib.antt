@@ -2,6 +2,7 @@ pub mod Numbering
 pub mod Timings
 pub mod OpenFaults
 pub mod Courses
+pub mod Pacing
 pub mod RequestProgress
 pub mod Arrivals
 pub mod Calls
@@ -9,3 +10,5 @@ pub mod Steps
 pub mod Slots
 pub mod Laws
 pub mod Deadlines
+pub mod Resuming
+pub mod Processes

@@ -7,8 +7,10 @@ use Rattle.mctp_assembly.specs.Opened.{Opened, coded_opened}
 use Rattle.pldm_wire.specs.Kinds.{of_type}
 use Rattle.pldm_requester.specs.Courses.{Progress, Waiting, Answered, GaveUp, is_open}
 use Rattle.pldm_requester.specs.Steps.{Memo, RequesterState, is_recent, passes}
+use Rattle.pldm_requester.specs.Pacing.{coded_pace}
 use Rattle.pldm_requester.specs.Timings.{coded_timing}
 use Rattle.pldm_requester.specs.declared.requester.TheConstants.{MAX_OPEN, MAX_REMEMBERED}
+use Rattle.pldm_requester.specs.declared.pace.Pace.{Pace}
 use Rattle.pldm_requester.specs.declared.timing.Timing.{Timing}
 
 -- a progress is stored as the answer, if any, where the request is no longer open
@@ -60,6 +62,7 @@ pub record RequesterView : Type 0 where
   pub own : ℕ
   pub device : ℕ
   pub timing : Timing
+  pub pace : Pace
   pub count : ℕ
   pub slots : List Memo
   pub open_messages : map.FinMap key_cmp Opened
@@ -68,18 +71,19 @@ pub record RequesterView : Type 0 where
 -- it is stored as its parts
 abbrev pub coded_view : Coded RequesterView
 coded_view =
-    code_by (ℕ × (ℕ × (Timing × (ℕ × (List Memo × (map.FinMap key_cmp Opened × ℕ))))))
-    (coded× coded_ℕ (coded× coded_ℕ (coded× coded_timing (coded× coded_ℕ (coded× (coded_list coded_memo)
-    (coded× (map.code coded_key coded_opened) coded_ℕ))))))
-    (λ s. (s.own, (s.device, (s.timing, (s.count, (s.slots, (s.open_messages, s.last)))))))
+    code_by (ℕ × (ℕ × (Timing × (Pace × (ℕ × (List Memo × (map.FinMap key_cmp Opened × ℕ)))))))
+    (coded× coded_ℕ (coded× coded_ℕ (coded× coded_timing (coded× coded_pace (coded× coded_ℕ
+    (coded× (coded_list coded_memo) (coded× (map.code coded_key coded_opened) coded_ℕ)))))))
+    (λ s. (s.own, (s.device, (s.timing, (s.pace, (s.count, (s.slots, (s.open_messages, s.last))))))))
     (λ c. record {
       own = c.0;
       device = c.1.0;
       timing = c.1.1.0;
-      count = c.1.1.1.0;
-      slots = c.1.1.1.1.0;
-      open_messages = c.1.1.1.1.1.0;
-      last = c.1.1.1.1.1.1;
+      pace = c.1.1.1.0;
+      count = c.1.1.1.1.0;
+      slots = c.1.1.1.1.1.0;
+      open_messages = c.1.1.1.1.1.1.0;
+      last = c.1.1.1.1.1.1.1;
     })
     (λ _. refl)
 
@@ -94,6 +98,7 @@ held_of station = record {
   own = station.own;
   device = station.device;
   timing = station.timing;
+  pace = station.pace;
   count = station.count;
   remembered = remembered_in station.count station.slots;
   open_messages = station.open_messages;
@@ -110,7 +115,7 @@ pub record AreSlots (count : ℕ) (slots : List Memo) : Type 0 where
   pub some : count ≤ MAX_REMEMBERED → length slots ≡ count
   pub all : MAX_REMEMBERED ≤ count → length slots ≡ MAX_REMEMBERED
 
--- a request is opened twice the keeping time, so two milliseconds, after the one before it with its instance ID, or
+-- a request is opened twice the lifetime, so two milliseconds, after the one before it with its instance ID, or
 -- later: so no more requests than this are opened up to a moment
 abbrev pub most_opened : ℕ → ℕ
 most_opened moment = 16 * moment + 32
@@ -123,8 +128,14 @@ abbrev pub OlderAreShut : ℕ → List Memo → Type 0
 OlderAreShut count slots =
     (number : ℕ) → number + MAX_OPEN < count → passes is_open (remembered_in count slots number) ≡ false
 
+-- what a requester goes on with of the checks of its pace
+pub record IsInPace (timing : Timing) (pace : Pace) : Type 0 where
+  pub some : 0 < pace.lifetime
+  pub within : pace.lifetime ≤ timing.keep
+
 -- the requests are so far apart, and only the last ones can be open
 pub record IsStation (station : RequesterView) : Type 0 where
+  pub pace : IsInPace station.timing station.pace
   pub slots : AreSlots station.count station.slots
   pub few : station.count ≤ most_opened station.last
   pub paced : (number : ℕ) → IsPaced number (remembered_in station.count station.slots number)

@@ -1,6 +1,6 @@
 -- One call of a requester over what it holds.
 use Rattle.std.specs.FinMap as map
-use Rattle.std.specs.Prelude.{◌≡◌, ℕ, ◌+◌, ◌-◌, ◌*◌, ◌%◌, Bool, false, ◌&&◌, not, ◌==◌, nat_lt, nat_le, List, filter, Option, Some, None, is_some, option_map, Result, Ok, Err, if◌then◌else◌}
+use Rattle.std.specs.Prelude.{◌≡◌, ℕ, ◌+◌, ◌-◌, ◌%◌, Bool, false, ◌&&◌, ◌||◌, not, ◌==◌, nat_lt, nat_le, List, filter, Option, Some, None, is_some, option_map, Result, Ok, Err, if◌then◌else◌}
 use Rattle.std.specs.List.{range_with_len}
 use Rattle.mctp_packet.specs.Packets.{Packet}
 use Rattle.mctp_packet.specs.Passing.{passing}
@@ -13,12 +13,14 @@ use Rattle.pldm_wire.specs.Responses.{Response}
 use Rattle.pldm_wire.specs.declared.assigned.TheConstants.{INSTANCE_IDS}
 use Rattle.pldm_wire.specs.declared.command.Command.{Command}
 use Rattle.pldm_requester.specs.Numbering.{tag_of, packets_of}
-use Rattle.pldm_requester.specs.Courses.{Course, is_open, begun, is_given_up, is_sent_again, ticked, answered}
+use Rattle.pldm_requester.specs.Courses.{Course, no_course, is_open, begun, is_given_up, is_sent_again, ticked, answered}
+use Rattle.pldm_requester.specs.Pacing.{at_default, newest, is_too_soon, stride, is_crowded}
 use Rattle.pldm_requester.specs.Arrivals.{Arrival, Drop, Part, Answer, got_of, is_response_to, passed_arrival}
 use Rattle.pldm_requester.specs.Calls.{answer_key, is_from_device, open_answer}
 use Rattle.pldm_requester.specs.declared.results.Got.{Got}
 use Rattle.pldm_requester.specs.declared.results.Opened.{Opened}
 use Rattle.pldm_requester.specs.declared.results.OpenFault.{OpenFault}
+use Rattle.pldm_requester.specs.declared.pace.Pace.{Pace}
 use Rattle.pldm_requester.specs.declared.timing.Timing.{Timing}
 use Rattle.pldm_requester.specs.declared.requester.TheConstants.{MAX_OPEN, MAX_REMEMBERED}
 
@@ -28,12 +30,13 @@ pub record Memo : Type 0 where
   pub packets : List (List ℕ)
   pub course : Course
 
--- its own endpoint ID and the device's, its timing, how many requests were opened, what is remembered of each, what is
+-- its own endpoint ID and the device's, its timing and pace, how many requests were opened, what is remembered of each, what is
 -- open on each key, and the last moment
 pub record RequesterState : Type 0 where
   pub own : ℕ
   pub device : ℕ
   pub timing : Timing
+  pub pace : Pace
   pub count : ℕ
   pub remembered : ℕ → Option Memo
   pub open_messages : assembly.OpenMessages
@@ -44,22 +47,28 @@ pub record IsHeld (new held : RequesterState) : Type 0 where
   pub own : new.own ≡ held.own
   pub device : new.device ≡ held.device
   pub timing : new.timing ≡ held.timing
+  pub pace : new.pace ≡ held.pace
   pub count : new.count ≡ held.count
   pub remembered : (number : ℕ) → new.remembered number ≡ held.remembered number
   pub open_messages : new.open_messages ≡ held.open_messages
   pub last : new.last ≡ held.last
 
--- what a new one holds
-abbrev pub held_at_first : ℕ → ℕ → Timing → RequesterState
-held_at_first own device timing = record {
+-- what a new one with a pace holds
+abbrev pub paced_at_first : ℕ → ℕ → Timing → Pace → RequesterState
+paced_at_first own device timing pace = record {
   own = own;
   device = device;
   timing = timing;
+  pace = pace;
   count = 0;
   remembered = λ number. None;
   open_messages = map.empty;
   last = 0;
 }
+
+-- what a new one holds that goes by the keeping time alone
+abbrev pub held_at_first : ℕ → ℕ → Timing → RequesterState
+held_at_first own device timing = paced_at_first own device timing (at_default timing.keep)
 
 -- the last so many numbers below a count
 abbrev pub is_recent : ℕ → ℕ → Bool
@@ -68,6 +77,10 @@ is_recent count number = nat_lt number count && nat_le count (number + MAX_REMEM
 abbrev pub passes : (Course → Bool) → Option Memo → Bool
 passes test None = false
 passes test (Some memo) = test memo.course
+
+abbrev pub course_of : Option Memo → Course
+course_of None = no_course
+course_of (Some memo) = memo.course
 
 abbrev pub with_course : (Course → Course) → Memo → Memo
 with_course change memo = record { kind = memo.kind; packets = memo.packets; course = change memo.course }
@@ -104,11 +117,23 @@ module _ (held : RequesterState) where
   abbrev pub is_tag_in_use : Bool
   is_tag_in_use = nat_le TAGS held.count && is_open_in (held.count - TAGS)
 
-  abbrev pub is_id_in_use : ℕ → Bool
-  is_id_in_use moment =
+  -- the courses of the other requests that are remembered, the newest first
+  abbrev pub courses_since : List Course
+  courses_since = newest (λ number. course_of (held.remembered number)) held.count (INSTANCE_IDS - 1)
+
+  abbrev pub has_id_before : ℕ → Bool
+  has_id_before moment =
       nat_le INSTANCE_IDS held.count
-      && passes (λ course. nat_lt moment (course.opening + 2 * held.timing.keep))
+      && passes (λ before. is_too_soon held.timing.keep held.pace moment before.opening courses_since)
       (held.remembered (held.count - INSTANCE_IDS))
+
+  abbrev pub has_many_before : ℕ → Bool
+  has_many_before moment =
+      nat_lt 0 (stride held.pace) && nat_le (stride held.pace) held.count
+      && passes (is_crowded held.pace moment) (held.remembered (held.count - stride held.pace))
+
+  abbrev pub is_id_in_use : ℕ → Bool
+  is_id_in_use moment = has_id_before moment || has_many_before moment
 
   abbrev pub accepts : ℕ → Bool
   accepts moment = not is_tag_in_use && not (is_id_in_use moment)

@@ -4,11 +4,17 @@
 #![tactic(auto)]
 
 pub mod laws;
+mod numbering;
+mod openings;
+mod pace;
 mod remembered;
 mod requester;
 mod results;
+mod resuming;
 mod timing;
 
+pub use openings::{Openings, ResumeFault};
+pub use pace::{Pace, PaceFault, SettingFault};
 pub use requester::{MAX_OPEN, MAX_REMEMBERED, Requester};
 pub use results::{Due, Got, OpenFault, Opened, Status};
 pub use timing::{MAX_TRIES, Timing, TimingFault};

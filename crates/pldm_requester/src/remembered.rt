@@ -60,8 +60,9 @@ impl Remembered {
     ghost use Rattle.arrayvec.specs.ArrayVec.{array_vec_len};
     ghost use Rattle.mctp_packet.specs.Pieces.{written_packets};
     ghost use Rattle.pldm_wire.specs.Commands.{IsCommand, command_message, kind_of};
-    ghost use Rattle.pldm_requester.specs.Courses.{answered, begun, is_open, is_over, is_given_up, is_sent_again, ticked};
+    ghost use Rattle.pldm_requester.specs.Courses.{answered, begun, given_up, is_open, is_over, is_given_up, is_sent_again, ticked};
     ghost use Rattle.pldm_requester.specs.Deadlines.{is_due, is_reached};
+    ghost use Rattle.pldm_requester.specs.Pacing.{is_answered_from};
     ghost use Rattle.pldm_requester.specs.Steps.{with_course};
     ghost use Rattle.pldm_requester.specs.RequestProgress.{progress_in_status};
 
@@ -89,6 +90,21 @@ impl Remembered {
         }
     }
 
+    /// A request of which the opening alone is known, with this instance ID on this route: it stands as one for the
+    /// terminus ID that was given up.
+    pub(crate) fn shut(id: u8, route: &Route, opening: Moment) -> Remembered
+        requires { id < INSTANCE_IDS }
+        ensures { result ≡ record {
+          kind = kind_of Command.GetTid;
+          packets = written_packets route.now (command_message id Command.GetTid);
+          course = given_up (begun opening);
+        } }
+    {
+        let mut request = Remembered::new(id, &Command::GetTid, route, opening);
+        request.progress = Progress::GaveUp;
+        request
+    }
+
     /// Another request takes its place: the command goes with this instance ID on this route.
     // As at first: so no room has to be cleared for its message.
     pub(crate) fn begin(&mut self, id: u8, command: &Command, route: &Route, now: Moment)
@@ -114,6 +130,13 @@ impl Remembered {
         ensures { result ≡ is_open self.now.course }
     {
         matches!(self.progress, Progress::Waiting)
+    }
+
+    /// Whether it was opened at this moment or later, and answered.
+    pub(crate) fn is_answered_from(&self, start: u64) -> bool
+        ensures { result ≡ is_answered_from start self.now.course }
+    {
+        matches!(self.progress, Progress::Answered) && self.opening.get() >= start
     }
 
     /// Whether all tries have had their time.

@@ -1,9 +1,10 @@
 //! The requesting end of a link: requests opened, sent again at ticks, and answered by packets.
 
-ghost use Rattle.std.specs.Prelude.{◌≡◌, ◌⊎◌, ℕ, ◌+◌, ◌%◌, ◌^◌, ◌<◌, ◌≤◌, true, ◌||◌, [], ◌∷◌, ◌++◌, length, filter, if◌then◌else◌, None, Some, Ok, Err, option_map, vec_len, vec_capacity, IfOk, IfErr, IfSome, IsErrOf, OnOk, OnErr};
+ghost use Rattle.std.specs.Prelude.{◌≡◌, ◌↔◌, slice_get, ◌⊎◌, ℕ, ◌+◌, ◌%◌, ◌^◌, ◌<◌, ◌≤◌, true, ◌||◌, [], ◌∷◌, ◌++◌, length, filter, if◌then◌else◌, None, Some, Ok, Err, option_map, vec_len, vec_capacity, IfOk, IfErr, IfSome, IsErrOf, OnOk, OnErr, ◌-◌, ◌*◌};
 ghost use Rattle.std.specs.Bool.{OnFalse};
 ghost use Rattle.std.specs.Option.{option_copied};
-ghost use Rattle.mctp_packet.specs.Ids.{IsTag};
+ghost use Rattle.std.specs.List.{All};
+ghost use Rattle.mctp_packet.specs.Ids.{IsMoment, IsTag, IsKeep};
 ghost use Rattle.mctp_packet.specs.Memories.{out_of_memory};
 ghost use Rattle.mctp_packet.specs.Packets.{written};
 ghost use Rattle.mctp_packet.specs.Passing.{passed as where_expected};
@@ -13,18 +14,26 @@ ghost use Rattle.mctp_assembly.specs.Steps.{answer as assembled};
 ghost use Rattle.mctp_assembly.specs.declared.fed.Fed.TheVariants.{Whole};
 ghost use Rattle.pldm_wire.specs.Commands.{IsCommand, command_message, kind_of};
 ghost use Rattle.pldm_wire.specs.Responses.{response_of};
+ghost use Rattle.pldm_wire.specs.declared.assigned.TheConstants.{INSTANCE_IDS};
 ghost use Rattle.pldm_requester.specs.Arrivals.{got_of, is_response_to, response_arrival};
 ghost use Rattle.pldm_requester.specs.Calls.{answer_key};
 ghost use Rattle.pldm_requester.specs.Courses.{begun, is_given_up, is_sent_again, ticked};
 ghost use Rattle.pldm_requester.specs.Deadlines.{IsDeadline, IsEarliest, is_reached};
 ghost use Rattle.pldm_requester.specs.Numbering.{id_of, tag_of};
-ghost use Rattle.pldm_requester.specs.Slots.{AreSlots, OlderAreShut, held_of, most_opened, remembered_in, put_slot};
+ghost use Rattle.pldm_requester.specs.Pacing.{is_answered_from, is_too_soon, newest, setting_fault};
+ghost use Rattle.pldm_requester.specs.Slots.{AreSlots, IsInPace, OlderAreShut, held_of, most_opened, remembered_in, put_slot};
 ghost use Rattle.pldm_requester.specs.RequestProgress.{progress_in_status};
-ghost use Rattle.pldm_requester.specs.Steps.{IsHeld, accepts, again_at, arrived_by, begins_message, expects, given_up_at, goes_to, got_at, held_at_first, held_by, is_id_in_use, is_mine, is_open_in, is_tag_in_use, opened_held, opening_answer, passed, passes, received_held, recent_numbers, remembered_after, ticked_held, with_course};
+ghost use Rattle.pldm_requester.specs.Steps.{IsHeld, accepts, again_at, arrived_by, begins_message, expects, given_up_at, goes_to, got_at, held_at_first, held_by, is_id_in_use, is_mine, is_open_in, is_tag_in_use, opened_held, opening_answer, passed, passes, received_held, recent_numbers, remembered_after, ticked_held, with_course, course_of, courses_since, has_id_before, has_many_before, paced_at_first};
+ghost use Rattle.pldm_requester.specs.Resuming.{AreKnown, AreLeft, IsKnown, resumed_held, shut_memo};
 ghost use Rattle.pldm_requester.specs.Timings.{timing_fault};
 
+use crate::numbering::{id_of, tag_of};
 use crate::remembered::Remembered;
-use crate::{Due, Got, OpenFault, Opened, Status, Timing, TimingFault};
+use crate::resuming::{moments_of, shut_slots};
+use crate::{
+    Due, Got, OpenFault, Opened, Openings, Pace, ResumeFault, SettingFault, Status, Timing,
+    TimingFault,
+};
 use arrayvec::ArrayVec;
 use mctp_assembly::{Assembled, Assembler, Key};
 use mctp_packet::{
@@ -48,6 +57,7 @@ pub struct Requester {
     own: Eid,
     device: Eid,
     timing: Timing,
+    pace: Pace,
     count: u64,
     last: Moment,
     assembler: Assembler,
@@ -65,6 +75,7 @@ impl Model for Requester {
       own = r.own;
       device = r.device;
       timing = r.timing;
+      pace = r.pace;
       count = r.count;
       slots =
           r.slots.items;
@@ -76,6 +87,7 @@ impl Model for Requester {
       own = r.own;
       device = r.device;
       timing = r.timing;
+      pace = r.pace;
       count = r.count;
       slots = r.slots.items;
       open_messages = r.assembler;
@@ -107,15 +119,107 @@ impl Requester {
         if let Some(fault) = timing.fault(own, device) {
             return Err(fault);
         }
-        Ok(Requester {
+        let pace = Pace::at_default(timing.keep);
+        Ok(Requester::begun(alloc, own, device, timing, pace))
+    }
+
+    /// A requester as from [`Requester::new`], with a pace of its own: it may use an instance ID again before twice the
+    /// keeping time has passed.
+    ///
+    /// # Errors
+    ///
+    /// The first fault of the timing, as from [`Requester::new`]; else the first of the pace: a lifetime of 0, one that
+    /// is longer than the keeping time, tries that take longer than the lifetime, or a window that is not 1 to 32.
+    pub fn with_pace(
+        alloc: Global,
+        own: Eid,
+        device: Eid,
+        timing: Timing,
+        pace: Pace,
+    ) -> Result<Requester, SettingFault>
+        ensures held { IfOk result (λ requester. IsHeld (held_of requester)
+            (paced_at_first own device timing pace)) }
+        ensures ok { OnOk result (setting_fault own device timing pace ≡ None) }
+        ensures refused { IfErr result (λ fault. setting_fault own device timing pace ≡ Some fault) }
+    {
+        match setting_fault(own, device, &timing, &pace) {
+            Some(fault) => Err(fault),
+            None => Ok(Requester::begun(alloc, own, device, timing, pace)),
+        }
+    }
+
+    /// A requester with settings that have no fault.
+    fn begun(alloc: Global, own: Eid, device: Eid, timing: Timing, pace: Pace) -> Requester
+        requires { IsInPace timing pace }
+        ensures { IsHeld (held_of result) (paced_at_first own device timing pace) }
+    {
+        Requester {
             own,
             device,
             timing,
+            pace,
             count: 0,
             last: Moment::new(0).unwrap(),
             assembler: Assembler::new(alloc),
             slots: Vec::new(alloc),
+        }
+    }
+
+    /// A requester at the endpoint `own`, for the device at the endpoint `device`, that goes on where others stopped:
+    /// `openings` says which instance ID is next, and when the last request with each ID was opened. It has none of
+    /// their requests, and its last moment is `now`. What it opens comes twice its lifetime, at the default pace twice
+    /// the keeping time, after each earlier request with the same instance ID that the openings know.
+    ///
+    /// # Errors
+    ///
+    /// `Setting` with the first fault of the settings, as from [`Requester::with_pace`]; else `Openings` where no
+    /// requester can have left them up to now; else `Memory`.
+    #[tactic(auto, using(crate::proofs::ResumedOpenings::is_station, crate::proofs::ResumedOpenings::is_held_again))]
+    pub fn resumed(
+        alloc: Global,
+        own: Eid,
+        device: Eid,
+        timing: Timing,
+        pace: Pace,
+        now: Moment,
+        openings: &Openings,
+    ) -> Result<Requester, ResumeFault>
+        ensures held { IfOk result (λ requester. IsHeld (held_of requester)
+            (resumed_held own device timing pace now openings.now)) }
+        ensures known { OnOk result ((setting_fault own device timing pace ≡ None) × AreKnown now openings.now) }
+        ensures setting { (fault : SettingFault) → IsErrOf result (ResumeFault.Setting fault)
+            ↔ (setting_fault own device timing pace ≡ Some fault) }
+        ensures unknown { IsErrOf result ResumeFault.Openings → AreKnown now openings.now → ⊥ }
+    {
+        if let Some(fault) = setting_fault(own, device, &timing, &pace) {
+            return Err(ResumeFault::Setting(fault));
+        }
+        let Some(count) = openings.count_at(now) else {
+            return Err(ResumeFault::Openings);
+        };
+        let slots = shut_slots(alloc, own, device, openings)?;
+        Ok(Requester {
+            own,
+            device,
+            timing,
+            pace,
+            count,
+            last: now,
+            assembler: Assembler::new(alloc),
+            slots,
         })
+    }
+
+    /// When the last request with each instance ID was opened, for a [`Requester::resumed`] that goes on.
+    #[tactic(auto, using(crate::proofs::ResumedOpenings::are_left, crate::proofs::ResumedOpenings::are_known))]
+    pub fn openings(&self) -> Openings
+        ensures left { AreLeft (held_of self.now) result }
+        ensures known { (now : ℕ) → (held_of self.now).last ≤ now → AreKnown now result }
+    {
+        Openings {
+            next: id_of(self.count),
+            moments: moments_of(&self.slots),
+        }
     }
 
     /// The moment of the last call that answered neither Memory nor a fault of opening, 0 before the
@@ -178,20 +282,63 @@ impl Requester {
         self.count >= u64::from(TAGS) && self.is_open(self.count - u64::from(TAGS))
     }
 
-    /// Whether the last request with the next instance ID was opened less than twice the keeping time
-    /// ago.
+    /// Whether the next instance ID is not free yet.
     fn is_id_in_use(&self, now: Moment) -> bool
         ensures value { result ≡ is_id_in_use (held_of self.now) now }
+        ensures paced { OnFalse result (self.now.count < most_opened now) }
+    {
+        self.has_id_before(now) || self.has_many_before(now)
+    }
+
+    /// Whether the last request with the next instance ID was opened less than twice the lifetime ago, or less than
+    /// twice the keeping time ago and too few were answered since.
+    fn has_id_before(&self, now: Moment) -> bool
+        ensures value { result ≡ has_id_before (held_of self.now) now }
         ensures paced { OnFalse result (self.now.count < most_opened now) }
     {
         if self.count < u64::from(INSTANCE_IDS) {
             return false;
         }
         match self.remembered(self.count - u64::from(INSTANCE_IDS)) {
-            Some(request) => {
-                let free = request.opening.get() + 2 * u64::from(self.timing.keep.get());
-                now.get() < free
-            }
+            Some(before) => self.is_too_soon(before.opening, now),
+            None => false,
+        }
+    }
+
+    /// Whether an instance ID is not free yet, where the last request with it was opened at this moment.
+    fn is_too_soon(&self, opening: Moment, now: Moment) -> bool
+        ensures value { result ≡ is_too_soon self.now.timing.keep self.now.pace now opening
+            (courses_since (held_of self.now)) }
+        ensures far { OnFalse result (opening + 2 * self.now.pace.lifetime ≤ now) }
+    {
+        let start = opening.get() + self.lifetime();
+        if now.get() < opening.get() + 2 * self.lifetime() {
+            return true;
+        }
+        let kept = opening.get() + 2 * u64::from(self.timing.keep.get());
+        now.get() < kept
+            && answered_from(&self.slots, self.count, start) < u64::from(self.pace.window)
+    }
+
+    /// The lifetime of its pace: no longer than the keeping time.
+    fn lifetime(&self) -> u64
+        ensures value { result ≡ self.now.pace.lifetime }
+        ensures range { IsKeep result }
+    {
+        let _range = self.timing.keep.get(); // for the proof: a keeping time
+        self.pace.lifetime
+    }
+
+    /// Whether the requests are spread and too many were opened in the last lifetime.
+    fn has_many_before(&self, now: Moment) -> bool
+        ensures { result ≡ has_many_before (held_of self.now) now }
+    {
+        let stride = u64::from(self.pace.stride());
+        if stride == 0 || self.count < stride {
+            return false;
+        }
+        match self.remembered(self.count - stride) {
+            Some(before) => now.get() < before.opening.get() + self.lifetime(),
             None => false,
         }
     }
@@ -205,9 +352,11 @@ impl Requester {
     /// # Errors
     ///
     /// `TagInUse` where request n - 8 is open; else `IdInUse` where request n - 32 was opened less than
-    /// twice the keeping time ago; else `Memory` where the room for the request and its answer was
-    /// refused, which only the first [`MAX_REMEMBERED`] requests need. The requester is then as
-    /// before.
+    /// twice the lifetime ago, or less than twice the keeping time ago with fewer requests answered than the window
+    /// counts, of those opened at least the lifetime after it, or where requests are spread and this one comes too soon
+    /// (see [`Pace`]; at the default pace exactly where request n - 32 was opened less than twice the keeping time ago);
+    /// else `Memory` where the room for the request and its answer was refused, which only the first
+    /// [`MAX_REMEMBERED`] requests need. The requester is then as before.
     pub fn open(&mut self, now: Moment, command: &Command) -> Result<Opened, OpenFault>
         requires { (held_of self.old).last ≤ now }
         ensures answer { IfOk result (λ opened. opening_answer (held_of self.old) now ≡ Ok opened) }
@@ -494,20 +643,18 @@ fn is_answer(number: u64, kind: Kind, response: &ResponseRef<'_>) -> bool
         && answered.command == kind.command
 }
 
-/// The instance ID of a request.
-fn id_of(number: u64) -> u8
-    ensures value { result ≡ id_of number }
-    ensures range { result < INSTANCE_IDS }
+/// The first fault of these settings.
+fn setting_fault(own: Eid, device: Eid, timing: &Timing, pace: &Pace) -> Option<SettingFault>
+    ensures value { result ≡ setting_fault own device timing.now pace.now }
+    ensures none { result ≡ None → IsInPace timing.now pace.now }
 {
-    (number % u64::from(INSTANCE_IDS)) as u8
-}
-
-/// The tag of a request.
-fn tag_of(number: u64) -> Tag
-    ensures value { result ≡ tag_of number }
-    ensures range { IsTag result }
-{
-    Tag::new((number % u64::from(TAGS)) as u8).unwrap()
+    if let Some(fault) = timing.fault(own, device) {
+        return Some(SettingFault::Timing(fault));
+    }
+    if let Some(fault) = pace.fault(timing) {
+        return Some(SettingFault::Pace(fault));
+    }
+    None
 }
 
 /// Takes the room for one more request and its answer, where there are not all slots yet.
@@ -544,6 +691,22 @@ fn tick_last(slots: &mut [Remembered], count: u64, timing: &Timing, now: Moment)
         slot.tick(number, timing, now, &mut due);
     }
     due
+}
+
+/// How many of the last requests were opened at this moment or later, and answered. The one that has the next
+/// instance ID is not among them.
+fn answered_from(slots: &[Remembered], count: u64, start: u64) -> u64
+    requires { AreSlots count slots.now }
+    ensures { result ≡ length (filter (is_answered_from start)
+        (newest (λ number. course_of (remembered_in count slots.now number)) count (INSTANCE_IDS - 1))) }
+{
+    let mut answered = 0;
+    for number in count.saturating_sub(u64::from(INSTANCE_IDS) - 1)..count {
+        if slots[(number % MAX_REMEMBERED as u64) as usize].is_answered_from(start) {
+            answered += 1;
+        }
+    }
+    answered
 }
 
 /// The moment from which on a tick has something to do for one of the last requests, if there is one.

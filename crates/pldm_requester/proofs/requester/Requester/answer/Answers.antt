@@ -10,7 +10,7 @@ use Rattle.pldm_requester.proofs.requester.Requester.answer.Goals as goal
 
 pub returns-clause-held : goal.returns-clause-held
 returns-clause-held c =
-    let station : RequesterView = record { own = c.self.inside.own; device = c.self.inside.device; timing = c.self.inside.timing; count = c.self.inside.count; slots = c.self.inside.slots.items; open_messages = c.self.inside.assembler; last = c.self.inside.last } in
+    let station : RequesterView = record { own = c.self.inside.own; device = c.self.inside.device; timing = c.self.inside.timing; pace = c.self.inside.pace; count = c.self.inside.count; slots = c.self.inside.slots.items; open_messages = c.self.inside.assembler; last = c.self.inside.last } in
     let memo : Memo = c.index_mut-slot.result.now in
     let after = λ (s : RequesterView). record (held_of s) { remembered = remembered_after (held_of s) (response_arrival (is_mine (held_of s)) c.args.number c.args.message.now (response_of c.args.message.now)) } in
     rw c.take.ensures (

@@ -13,7 +13,7 @@ use Rattle.pldm_requester.proofs.requester.Requester.open.Goals as goal
 
 pub invariant_of-self-2 : goal.invariant_of-self-2
 invariant_of-self-2 c =
-    let station : RequesterView = record { own = c.self.inside.own; device = c.self.inside.device; timing = c.self.inside.timing; count = c.self.inside.count; slots = c.self.inside.slots.items; open_messages = c.self.inside.assembler; last = c.self.inside.last } in
+    let station : RequesterView = record { own = c.self.inside.own; device = c.self.inside.device; timing = c.self.inside.timing; pace = c.self.inside.pace; count = c.self.inside.count; slots = c.self.inside.slots.items; open_messages = c.self.inside.assembler; last = c.self.inside.last } in
     let route : Route = record { destination = station.device; source = station.own; owner = true; tag = c.tag_of-tag.result } in
     let memo : Memo = record { kind = kind_of c.args.command.now; packets = written_packets route (command_message (id_of station.count) c.args.command.now); course = begun c.args.now } in
     let count = ap (λ (s : RequesterView). s.count) c.self.view_is in
@@ -24,7 +24,7 @@ invariant_of-self-2 c =
 
 pub returns-clause-held : goal.returns-clause-held
 returns-clause-held c =
-    let station : RequesterView = record { own = c.self.inside.own; device = c.self.inside.device; timing = c.self.inside.timing; count = c.self.inside.count; slots = c.self.inside.slots.items; open_messages = c.self.inside.assembler; last = c.self.inside.last } in
+    let station : RequesterView = record { own = c.self.inside.own; device = c.self.inside.device; timing = c.self.inside.timing; pace = c.self.inside.pace; count = c.self.inside.count; slots = c.self.inside.slots.items; open_messages = c.self.inside.assembler; last = c.self.inside.last } in
     let tag = c.tag_of-tag.ensures.value in
     let route : Route = record { destination = station.device; source = station.own; owner = true; tag = c.tag_of-tag.result } in
     let packets = written_packets route (command_message (id_of station.count) c.args.command.now) in
