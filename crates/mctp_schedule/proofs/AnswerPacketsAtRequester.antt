@@ -19,6 +19,7 @@ use Rattle.pldm_requester.specs.Calls.{Call, Request, Requests, answered_by, arr
 use Rattle.pldm_requester.specs.Courses.{Course, answered}
 use Rattle.pldm_requester.specs.Laws.{FoundOnItsTag}
 use Rattle.pldm_requester.specs.Numbering.{tag_of}
+use Rattle.pldm_requester.specs.declared.pace.Pace.{Pace}
 use Rattle.pldm_requester.specs.declared.timing.Timing.{Timing}
 
 -- ---- the packets of a message by place
@@ -63,9 +64,9 @@ pub record Moved (a b : Requests) (n : ℕ) (request : Request) : Type 0 where
   pub here : b.each n ≡ request
   pub others : (k : ℕ) → k ≢ n → b.each k ≡ a.each k
 
-module _ (own device : ℕ) (timing : Timing) (calls : List Call) where
+module _ (own device : ℕ) (timing : Timing) (pace : Pace) (calls : List Call) where
   abbrev a : Requests
-  a = requests own device timing calls
+  a = requests own device timing pace calls
 
   fed_moves : (n : ℕ) (p : Packet) (arrival : Arrival) → IsOf n arrival → Moved a (answered_by own device timing (fed_to own device timing a p (Some n)) arrival) n (with_arrival (a.each n) p arrival)
   fed_moves n p arrival is = go arrival is
@@ -88,7 +89,7 @@ module _ (own device : ℕ) (timing : Timing) (calls : List Call) where
     goes =
         cond-true (is_from_device device p) _ _ from
         ∙ ap (open_on (is_open_at a) a.count) tag
-        ∙ found own device timing calls n within near
+        ∙ found own device timing pace calls n within near
 
     read_so : passed own device timing a bytes ≡ (if is_some (goes_to own device timing a p) then Ok p else Err BadTag)
     read_so = ap (where_expected (λ q. is_some (goes_to own device timing a q))) reads

@@ -20,7 +20,7 @@ use Rattle.mctp_schedule.specs.FirstArrivals.{first}
 use Rattle.mctp_schedule.specs.OncePerformed.{RepliesFit, given, was_busy}
 use Rattle.mctp_schedule.specs.RequesterHalf.{IsSound, ProgressIs}
 use Rattle.mctp_schedule.specs.TakenReplies.{brought, came, completes, completes_for, is_waiting, part_count, replies, reply_of, taken, way_to}
-use Rattle.mctp_schedule.specs.Worlds.{IsTimely, IsTimelyAction, NeverWentBack, BothEnds, TagIsOwn, World, answer_packets, asked_by, busy_from, busy_packet, handed, packet_of, reply_packet, requests_of, source_of, timing_of, world}
+use Rattle.mctp_schedule.specs.Worlds.{IsTimely, IsTimelyAction, NeverWentBack, BothEnds, TagIsOwn, World, answer_packets, asked_by, busy_from, busy_packet, handed, packet_of, reply_packet, requests_of, source_of, pace_of, timing_of, world}
 use Rattle.schedule_text.specs.declared.step.Action.{Action}
 use Rattle.schedule_text.specs.declared.step.Action.TheVariants as actions
 use Rattle.schedule_text.specs.declared.step.Step.{Step}
@@ -88,7 +88,7 @@ module _ {S : Type 0} (setting : BothEnds S) where
     abbrev new : Asked
     new = asked_by setting (world setting past) moment e command
 
-    holds_new : (k : ℕ) → asked_at (Log past) k ≡ None → accepts (timing_of setting e).keep (requests_of setting (world setting past) e) moment ≡ true → Holds setting (opening ∷ past) k new
+    holds_new : (k : ℕ) → asked_at (Log past) k ≡ None → accepts (timing_of setting e).keep (pace_of setting e) (requests_of setting (world setting past) e) moment ≡ true → Holds setting (opening ∷ past) k new
     holds_new k off ok =
         let q = quiet setting past k off in
         let stands : Stands setting (opening ∷ past) new ≡ new_request moment command = opens_new setting (world setting past) (Log (opening ∷ past)) moment e command ok in
@@ -100,9 +100,9 @@ module _ {S : Type 0} (setting : BothEnds S) where
         }
 
     first_seen : (k : ℕ) (r : Asked) → asked_at (Log past) k ≡ None → asked_at (Log (opening ∷ past)) k ≡ Some r → Holds setting (opening ∷ past) k r
-    first_seen k r off is = go (accepts (timing_of setting e).keep (requests_of setting (world setting past) e) moment) refl is
+    first_seen k r off is = go (accepts (timing_of setting e).keep (pace_of setting e) (requests_of setting (world setting past) e) moment) refl is
       where
-        go : (b : Bool) → accepts (timing_of setting e).keep (requests_of setting (world setting past) e) moment ≡ b → asked_at (if b then Opened new ∷ Log past else Log past) k ≡ Some r → Holds setting (opening ∷ past) k r
+        go : (b : Bool) → accepts (timing_of setting e).keep (pace_of setting e) (requests_of setting (world setting past) e) moment ≡ b → asked_at (if b then Opened new ∷ Log past else Log past) k ≡ Some r → Holds setting (opening ∷ past) k r
         go false refused f = absurd (let wrong : Some r ≡ None = sym f ∙ off in cc)
         go true ok f =
             ⊎_elim
@@ -164,7 +164,7 @@ module _ {S : Type 0} (setting : BothEnds S) where
 
     arrives : is_waiting setting (world setting past) q ≡ true → arrived q.source setting.eid (timing_of setting q.source) (requests_of setting (world setting past) q.source) bytes ≡ arrival
     arrives waits =
-        comes_in q.source setting.eid (timing_of setting q.source) ((world setting past).calls q.source) lower.found q.own known.within (own q is) p bytes (reads_back setting lower past timely sound i q is message j bytes sent) from refl waits
+        comes_in q.source setting.eid (timing_of setting q.source) (pace_of setting q.source) ((world setting past).calls q.source) lower.found q.own known.within (own q is) p bytes (reads_back setting lower past timely sound i q is message j bytes sent) from refl waits
         ∙ brings waits
 
     stands_open : is_waiting setting (world setting past) q ≡ true → Stands setting (step ∷ past) q ≡ with_arrival (Stands setting past q) p arrival

@@ -9,6 +9,7 @@ use Rattle.pldm_requester.specs.Arrivals.{Arrival, Drop, Part, Answer}
 use Rattle.pldm_requester.specs.Calls.{Call, Open, Tick, Receive, Request, Requests, accepts, after_call, answered_by, arrived, fed_by, fed_to, goes_to, last_moment, opened, passed, requests, with_request}
 use Rattle.pldm_requester.specs.Courses.{Course, is_given_up, is_sent_again, given_up, sent_again, ticked}
 use Rattle.pldm_requester.specs.Laws.{moment_of}
+use Rattle.pldm_requester.specs.declared.pace.Pace.{Pace}
 use Rattle.pldm_requester.specs.declared.timing.Timing.{Timing}
 
 -- what was opened stays as it was opened
@@ -38,7 +39,7 @@ opened_grows a moment command = record {
   each = λ n within. ap (λ (r : Request). r.course.opening) (cond-false (n == a.count) _ (a.each n) (ne_eqb n a.count (λ e. absurd (omega (arith, e)))));
 }
 
-module _ (own device : ℕ) (timing : Timing) where
+module _ (own device : ℕ) (timing : Timing) (pace : Pace) where
   ticked_opening : (moment : ℕ) (course : Course) → (ticked timing moment course).opening ≡ course.opening
   ticked_opening moment course = go (is_given_up timing moment course) (is_sent_again timing moment course)
     where
@@ -60,8 +61,8 @@ module _ (own device : ℕ) (timing : Timing) where
   answered_grows a Part = same_grows a
   answered_grows a (Answer n message) = with_grows a n _ refl
 
-  pub call_grows : (a : Requests) (call : Call) → Grows a (after_call own device timing a call)
-  call_grows a (Open moment command) = go (accepts timing.keep a moment)
+  pub call_grows : (a : Requests) (call : Call) → Grows a (after_call own device timing pace a call)
+  call_grows a (Open moment command) = go (accepts timing.keep pace a moment)
     where
       go : (b : Bool) → Grows a (if b then opened a moment command else a)
       go true = opened_grows a moment command
@@ -71,10 +72,10 @@ module _ (own device : ℕ) (timing : Timing) where
       both_grow a (fed_by own device timing a (passed own device timing a bytes)) _ (passed_grows a (passed own device timing a bytes)) (answered_grows (fed_by own device timing a (passed own device timing a bytes)) (arrived own device timing a bytes))
 
   -- a call leaves its moment, or the one before
-  pub call_last : (calls : List Call) (call : Call) → last_moment own device timing calls ≤ moment_of call → last_moment own device timing (call ∷ calls) ≤ moment_of call
-  call_last calls (Open moment command) before = go (accepts timing.keep (requests own device timing calls) moment)
+  pub call_last : (calls : List Call) (call : Call) → last_moment own device timing pace calls ≤ moment_of call → last_moment own device timing pace (call ∷ calls) ≤ moment_of call
+  call_last calls (Open moment command) before = go (accepts timing.keep pace (requests own device timing pace calls) moment)
     where
-      go : (b : Bool) → (if b then moment else last_moment own device timing calls) ≤ moment
+      go : (b : Bool) → (if b then moment else last_moment own device timing pace calls) ≤ moment
       go true = omega arith
       go false = before
   call_last calls (Tick moment) before = omega arith

@@ -25,7 +25,7 @@ use Rattle.mctp_schedule.specs.Timely.{IsTimelyLog}
 use Rattle.mctp_schedule.specs.OncePerformed.{given, was_busy}
 use Rattle.mctp_schedule.specs.RequesterHalf.{AnsweredWasPerformed, AnsweredWhereTaken, BusyIsExpected, IsTimelySchedule, OwnAssembly, OwnDeliveries, ReplyIsExpected, ProgressIs, TakenOnce}
 use Rattle.mctp_schedule.specs.TakenReplies.{brought, busy_expected, busy_expected_to, came, completes, completes_for, got_by, if_waiting, is_waiting, part_count, reply_of, reply_expected, reply_expected_to, taken, way_to}
-use Rattle.mctp_schedule.specs.Worlds.{IsTimelyAction, BothEnds, TagIsOwn, World, answer_packets, busy_from, busy_packet, packet_of, reply_packet, source_of, timing_of, world}
+use Rattle.mctp_schedule.specs.Worlds.{IsTimelyAction, BothEnds, TagIsOwn, World, answer_packets, busy_from, busy_packet, packet_of, reply_packet, source_of, pace_of, timing_of, world}
 use Rattle.schedule_text.specs.declared.step.Action.TheVariants.{Reply, Busy}
 use Rattle.schedule_text.specs.declared.step.Step.{Step}
 use Rattle.mctp_schedule.proofs.AnswerPacketOutcomes.{Lower, arrival_by, arrival_expected, busy_brings, busy_is, busy_is_one, mine, packet_is, performed_at, reads_back, reply_brings}
@@ -63,7 +63,7 @@ module _ {S : Type 0} (setting : BothEnds S) (lower : Lower) where
 
   pub own_assembly : FedSinceItsOpening → OwnAssembly setting
   own_assembly since steps k r s is waits =
-      since r.source setting.eid (timing_of setting r.source) ((world setting steps).calls r.source) r.own waits
+      since r.source setting.eid (timing_of setting r.source) (pace_of setting r.source) ((world setting steps).calls r.source) r.own waits
       ∙ own_deliveries steps k r s is waits
 
   pub answered_where_taken : AnsweredWhereTaken setting
@@ -122,12 +122,12 @@ module _ {S : Type 0} (setting : BothEnds S) (lower : Lower) where
     gives_bad_tag : is_waiting setting (world setting past) r ≡ false → got_from setting (world setting past) r.source (Some bytes) ≡ Some (got.Dropped BadTag)
     gives_bad_tag shut =
         ap (λ x. Some (got_of x))
-        (bad_tag r.source setting.eid timing calls lower.found r.own known.within (own r is) p bytes (reads_back setting lower past (log_of past s) s.sound k r is message j bytes sent) from refl shut)
+        (bad_tag r.source setting.eid timing (pace_of setting r.source) calls lower.found r.own known.within (own r is) p bytes (reads_back setting lower past (log_of past s) s.sound k r is message j bytes sent) from refl shut)
 
     gives_arrival : (arrival : Arrival) → is_waiting setting (world setting past) r ≡ true → fed_arrival (mine setting lower past (log_of past s) s.sound k r is) r.own (next (came setting past k r) p) ≡ arrival → got_from setting (world setting past) r.source (Some bytes) ≡ Some (got_of arrival)
     gives_arrival arrival waits brings =
         ap (λ x. Some (got_of x))
-        (comes_in r.source setting.eid timing calls lower.found r.own known.within (own r is) p bytes (reads_back setting lower past (log_of past s) s.sound k r is message j bytes sent) from refl waits
+        (comes_in r.source setting.eid timing (pace_of setting r.source) calls lower.found r.own known.within (own r is) p bytes (reads_back setting lower past (log_of past s) s.sound k r is message j bytes sent) from refl waits
         ∙ ap (λ fed. fed_arrival (mine setting lower past (log_of past s) s.sound k r is) r.own (next fed p)) ((all_of past s k r is).fed waits)
         ∙ brings)
 

@@ -16,7 +16,7 @@ use Rattle.mctp_schedule.specs.HeldRuns.{HeldRun}
 use Rattle.mctp_schedule.specs.Places.{BeginEach, Begins}
 use Rattle.mctp_schedule.specs.Running.{IsRunning, IsSide, MayCome}
 use Rattle.schedule_text.specs.Schedules.{AreKnown, NeverGoBack, is_known}
-use Rattle.mctp_schedule.specs.Worlds.{BothEnds, time_now, timing_of, world}
+use Rattle.mctp_schedule.specs.Worlds.{BothEnds, time_now, pace_of, timing_of, world}
 use Rattle.mctp_schedule.specs.declared.journal.Journal.{Journal}
 use Rattle.schedule_text.specs.declared.step.RequesterLine.{RequesterLine}
 use Rattle.schedule_text.specs.declared.step.Step.{Step}
@@ -59,7 +59,7 @@ begins setting run times window eid device_new device_same new same held each em
     side e s b = record {
       endpoint = b.endpoint;
       other = b.other;
-      left = same e setting.eid (timing_of setting e) (held_of s.station) (held_at_first e setting.eid (timing_of setting e)) [] b.held (new e setting.eid (timing_of setting e));
+      left = same e setting.eid (timing_of setting e) (pace_of setting e) (held_of s.station) (held_at_first e setting.eid (timing_of setting e)) [] b.held (new e setting.eid (timing_of setting e) (pace_of setting e));
       numbers = b.numbers;
       counted = refl;
       numbered = λ own k is. absurd (cc);

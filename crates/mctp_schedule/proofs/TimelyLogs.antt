@@ -10,7 +10,7 @@ use Rattle.pldm_requester.specs.Numbering.{id_of, message_of}
 use Rattle.mctp_schedule.specs.Laws.{LogIsTimely}
 use Rattle.mctp_schedule.specs.Logs as logs
 use Rattle.mctp_schedule.specs.Logs.{Asked, Happening, Opened, Delivered, Sensed, WentDown, Apart, ComesLate, InOrder, asked_at, count_of, last_of}
-use Rattle.mctp_schedule.specs.Worlds.{NeverWentBack, BothEnds, World, asked_by, busy_packet, handed, log_opened, requests_of, source_of, time_now, timing_from, timing_of, with_call, IsTimely, IsTimelyAction, done, reply_packet, world}
+use Rattle.mctp_schedule.specs.Worlds.{NeverWentBack, BothEnds, World, asked_by, busy_packet, handed, log_opened, requests_of, source_of, time_now, timing_from, pace_of, timing_of, with_call, IsTimely, IsTimelyAction, done, reply_packet, world}
 use Rattle.mctp_schedule.specs.Timely.{InTime}
 use Rattle.schedule_text.specs.declared.step.RequesterLine.{RequesterLine}
 use Rattle.schedule_text.specs.declared.step.Step.{Step}
@@ -40,8 +40,8 @@ module _ {S : Type 0} (setting : BothEnds S) where
   pub record Joined (w : World) (now : ℕ) : Type 0 where
     pub order : InOrder w.log
     pub last : last_of w.log ≤ now
-    pub calls : (e : ℕ) → IsInOrder e setting.eid (timing_of setting e) (w.calls e)
-    pub called : (e : ℕ) → last_moment e setting.eid (timing_of setting e) (w.calls e) ≤ now
+    pub calls : (e : ℕ) → IsInOrder e setting.eid (timing_of setting e) (pace_of setting e) (w.calls e)
+    pub called : (e : ℕ) → last_moment e setting.eid (timing_of setting e) (pace_of setting e) (w.calls e) ≤ now
     pub matches : (k : ℕ) (r : Asked) → asked_at w.log k ≡ Some r → Matches w r
     pub apart : Apart setting.keep w.log
     pub in_time : InTime S setting.window setting.keep w.log
@@ -58,11 +58,11 @@ module _ {S : Type 0} (setting : BothEnds S) where
   }
 
   -- one more call of a requester
-  calls_grow : (calls : ℕ → List Call) (e : ℕ) (call : Call) (d : ℕ) → Grows (requests d setting.eid (timing_of setting d) (calls d)) (requests d setting.eid (timing_of setting d) (with_call calls e call d))
+  calls_grow : (calls : ℕ → List Call) (e : ℕ) (call : Call) (d : ℕ) → Grows (requests d setting.eid (timing_of setting d) (pace_of setting d) (calls d)) (requests d setting.eid (timing_of setting d) (pace_of setting d) (with_call calls e call d))
   calls_grow calls e call d = go (d == e)
     where
-      go : (b : Bool) → Grows (requests d setting.eid (timing_of setting d) (calls d)) (requests d setting.eid (timing_of setting d) (if b then call ∷ calls d else calls d))
-      go true = call_grows d setting.eid (timing_of setting d) (requests d setting.eid (timing_of setting d) (calls d)) call
+      go : (b : Bool) → Grows (requests d setting.eid (timing_of setting d) (pace_of setting d) (calls d)) (requests d setting.eid (timing_of setting d) (pace_of setting d) (if b then call ∷ calls d else calls d))
+      go true = call_grows d setting.eid (timing_of setting d) (pace_of setting d) (requests d setting.eid (timing_of setting d) (pace_of setting d) (calls d)) call
       go false = record { count = omega arith; each = λ n within. refl }
 
   still_matches : (w : World) (e : ℕ) (call : Call) (log : List Happening) (r : Asked) → Matches w r → Matches (record { calls = with_call w.calls e call; log = log }) r
@@ -74,15 +74,15 @@ module _ {S : Type 0} (setting : BothEnds S) where
         id = m.id;
       }
 
-  calls_in_order : (w : World) (now moment e : ℕ) (call : Call) → Joined w now → now ≤ moment → moment_of call ≡ moment → ((d : ℕ) → IsInOrder d setting.eid (timing_of setting d) (call ∷ w.calls d)) → ((d : ℕ) → last_moment d setting.eid (timing_of setting d) (call ∷ w.calls d) ≤ moment) → (d : ℕ) → IsInOrder d setting.eid (timing_of setting d) (with_call w.calls e call d) × (last_moment d setting.eid (timing_of setting d) (with_call w.calls e call d) ≤ moment)
+  calls_in_order : (w : World) (now moment e : ℕ) (call : Call) → Joined w now → now ≤ moment → moment_of call ≡ moment → ((d : ℕ) → IsInOrder d setting.eid (timing_of setting d) (pace_of setting d) (call ∷ w.calls d)) → ((d : ℕ) → last_moment d setting.eid (timing_of setting d) (pace_of setting d) (call ∷ w.calls d) ≤ moment) → (d : ℕ) → IsInOrder d setting.eid (timing_of setting d) (pace_of setting d) (with_call w.calls e call d) × (last_moment d setting.eid (timing_of setting d) (pace_of setting d) (with_call w.calls e call d) ≤ moment)
   calls_in_order w now moment e call j later at ordered last d = go (d == e)
     where
-      go : (b : Bool) → IsInOrder d setting.eid (timing_of setting d) (if b then call ∷ w.calls d else w.calls d) × (last_moment d setting.eid (timing_of setting d) (if b then call ∷ w.calls d else w.calls d) ≤ moment)
+      go : (b : Bool) → IsInOrder d setting.eid (timing_of setting d) (pace_of setting d) (if b then call ∷ w.calls d else w.calls d) × (last_moment d setting.eid (timing_of setting d) (pace_of setting d) (if b then call ∷ w.calls d else w.calls d) ≤ moment)
       go true = (ordered d, last d)
       go false = (j.calls d, let x = j.called d in omega arith)
 
   -- a tick, or bytes that are received, leave the log
-  joined_call : (w : World) (now moment e : ℕ) (call : Call) → Joined w now → now ≤ moment → ((d : ℕ) → IsInOrder d setting.eid (timing_of setting d) (call ∷ w.calls d)) → ((d : ℕ) → last_moment d setting.eid (timing_of setting d) (call ∷ w.calls d) ≤ moment) → moment_of call ≡ moment → Joined (record { calls = with_call w.calls e call; log = w.log }) moment
+  joined_call : (w : World) (now moment e : ℕ) (call : Call) → Joined w now → now ≤ moment → ((d : ℕ) → IsInOrder d setting.eid (timing_of setting d) (pace_of setting d) (call ∷ w.calls d)) → ((d : ℕ) → last_moment d setting.eid (timing_of setting d) (pace_of setting d) (call ∷ w.calls d) ≤ moment) → moment_of call ≡ moment → Joined (record { calls = with_call w.calls e call; log = w.log }) moment
   joined_call w now moment e call j later ordered last at =
       let both = calls_in_order w now moment e call j later at ordered last in
       record {
@@ -121,49 +121,49 @@ module _ {S : Type 0} (setting : BothEnds S) where
   }
 
   -- an open
-  opened_here : (w : World) (moment e : ℕ) (command : Command) → accepts (timing_of setting e).keep (requests_of setting w e) moment ≡ true → requests e setting.eid (timing_of setting e) (Open moment command ∷ w.calls e) ≡ opened (requests_of setting w e) moment command
-  opened_here w moment e command accepted = cond-true (accepts (timing_of setting e).keep (requests_of setting w e) moment) _ _ accepted
+  opened_here : (w : World) (moment e : ℕ) (command : Command) → accepts (timing_of setting e).keep (pace_of setting e) (requests_of setting w e) moment ≡ true → requests e setting.eid (timing_of setting e) (pace_of setting e) (Open moment command ∷ w.calls e) ≡ opened (requests_of setting w e) moment command
+  opened_here w moment e command accepted = cond-true (accepts (timing_of setting e).keep (pace_of setting e) (requests_of setting w e) moment) _ _ accepted
 
   new_opening : (a : Requests) (moment : ℕ) (command : Command) → ((opened a moment command).each a.count).course.opening ≡ moment
   new_opening a moment command = ap (λ (r : Request). r.course.opening) (cond-true (a.count == a.count) (new_request moment command) (a.each a.count) (eq-eqb a.count a.count refl))
 
-  new_matches : (w : World) (moment e : ℕ) (command : Command) (log : List Happening) → accepts (timing_of setting e).keep (requests_of setting w e) moment ≡ true → Matches (record { calls = with_call w.calls e (Open moment command); log = log }) (asked_by setting w moment e command)
+  new_matches : (w : World) (moment e : ℕ) (command : Command) (log : List Happening) → accepts (timing_of setting e).keep (pace_of setting e) (requests_of setting w e) moment ≡ true → Matches (record { calls = with_call w.calls e (Open moment command); log = log }) (asked_by setting w moment e command)
   new_matches w moment e command log accepted =
       let a = requests_of setting w e in
-      let here : requests e setting.eid (timing_of setting e) (with_call w.calls e (Open moment command) e) ≡ opened a moment command = ap (requests e setting.eid (timing_of setting e)) (cond-true (e == e) (Open moment command ∷ w.calls e) (w.calls e) (eq-eqb e e refl)) ∙ opened_here w moment e command accepted in
+      let here : requests e setting.eid (timing_of setting e) (pace_of setting e) (with_call w.calls e (Open moment command) e) ≡ opened a moment command = ap (requests e setting.eid (timing_of setting e) (pace_of setting e)) (cond-true (e == e) (Open moment command ∷ w.calls e) (w.calls e) (eq-eqb e e refl)) ∙ opened_here w moment e command accepted in
       record {
         within = subst (λ (b : Requests). a.count < b.count) (sym here) (omega arith);
         opening = ap (λ (b : Requests). (b.each a.count).course.opening) here ∙ new_opening a moment command;
         id = id_of_message a.count command;
       }
 
-  comes_late : IdsApart → (w : World) (now moment e : ℕ) (command : Command) → Joined w now → now ≤ moment → accepts (timing_of setting e).keep (requests_of setting w e) moment ≡ true → ComesLate setting.keep (asked_by setting w moment e command) w.log
+  comes_late : IdsApart → (w : World) (now moment e : ℕ) (command : Command) → Joined w now → now ≤ moment → accepts (timing_of setting e).keep (pace_of setting e) (requests_of setting w e) moment ≡ true → ComesLate setting.keep (asked_by setting w moment e command) w.log
   comes_late apart_ids w now moment e command j later accepted k q is s i =
       let a = requests_of setting w e in
       let call = Open moment command in
       let m = j.matches k q is in
       let own_at : (q.own < (requests_of setting w e).count) × (((requests_of setting w e).each q.own).course.opening ≡ q.opening) = subst (λ d. (q.own < (requests_of setting w d).count) × (((requests_of setting w d).each q.own).course.opening ≡ q.opening)) s (m.within, m.opening) in
       let here = opened_here w moment e command accepted in
-      let grown = call_grows e setting.eid (timing_of setting e) a call in
-      let was : ((requests e setting.eid (timing_of setting e) (call ∷ w.calls e)).each q.own).course.opening ≡ q.opening = grown.each q.own own_at.0 ∙ own_at.1 in
-      let new : ((requests e setting.eid (timing_of setting e) (call ∷ w.calls e)).each a.count).course.opening ≡ moment = ap (λ (b : Requests). (b.each a.count).course.opening) here ∙ new_opening a moment command in
-      let counted : a.count < (requests e setting.eid (timing_of setting e) (call ∷ w.calls e)).count = subst (λ (b : Requests). a.count < b.count) (sym here) (omega arith) in
+      let grown = call_grows e setting.eid (timing_of setting e) (pace_of setting e) a call in
+      let was : ((requests e setting.eid (timing_of setting e) (pace_of setting e) (call ∷ w.calls e)).each q.own).course.opening ≡ q.opening = grown.each q.own own_at.0 ∙ own_at.1 in
+      let new : ((requests e setting.eid (timing_of setting e) (pace_of setting e) (call ∷ w.calls e)).each a.count).course.opening ≡ moment = ap (λ (b : Requests). (b.each a.count).course.opening) here ∙ new_opening a moment command in
+      let counted : a.count < (requests e setting.eid (timing_of setting e) (pace_of setting e) (call ∷ w.calls e)).count = subst (λ (b : Requests). a.count < b.count) (sym here) (omega arith) in
       let before = j.called e in
-      let ordered : IsInOrder e setting.eid (timing_of setting e) (call ∷ w.calls e) = (omega arith, j.calls e) in
-      let far = apart_ids e setting.eid (timing_of setting e) (call ∷ w.calls e) q.own a.count ordered own_at.0 counted (sym m.id ∙ i ∙ id_of_message a.count command) in
+      let ordered : IsInOrder e setting.eid (timing_of setting e) (pace_of setting e) (call ∷ w.calls e) = (omega arith, j.calls e) in
+      let far = apart_ids e setting.eid (timing_of setting e) (pace_of setting e) (call ∷ w.calls e) q.own a.count ordered own_at.0 counted (sym m.id ∙ i ∙ id_of_message a.count command) in
       let same_keep = keep_is e in
       omega (arith, far, was, new, same_keep)
 
   joined_open : IdsApart → (w : World) (now moment e : ℕ) (command : Command) → Joined w now → now ≤ moment → Joined (record { calls = with_call w.calls e (Open moment command); log = log_opened setting w moment e command }) moment
-  joined_open apart_ids w now moment e command j later = go (accepts (timing_of setting e).keep (requests_of setting w e) moment) refl
+  joined_open apart_ids w now moment e command j later = go (accepts (timing_of setting e).keep (pace_of setting e) (requests_of setting w e) moment) refl
     where
-      ordered : (d : ℕ) → IsInOrder d setting.eid (timing_of setting d) (Open moment command ∷ w.calls d)
+      ordered : (d : ℕ) → IsInOrder d setting.eid (timing_of setting d) (pace_of setting d) (Open moment command ∷ w.calls d)
       ordered d = (let x = j.called d in omega arith, j.calls d)
 
-      last : (d : ℕ) → last_moment d setting.eid (timing_of setting d) (Open moment command ∷ w.calls d) ≤ moment
-      last d = call_last d setting.eid (timing_of setting d) (w.calls d) (Open moment command) (let x = j.called d in omega arith)
+      last : (d : ℕ) → last_moment d setting.eid (timing_of setting d) (pace_of setting d) (Open moment command ∷ w.calls d) ≤ moment
+      last d = call_last d setting.eid (timing_of setting d) (pace_of setting d) (w.calls d) (Open moment command) (let x = j.called d in omega arith)
 
-      go : (b : Bool) → accepts (timing_of setting e).keep (requests_of setting w e) moment ≡ b → Joined (record { calls = with_call w.calls e (Open moment command); log = if b then Opened (asked_by setting w moment e command) ∷ w.log else w.log }) moment
+      go : (b : Bool) → accepts (timing_of setting e).keep (pace_of setting e) (requests_of setting w e) moment ≡ b → Joined (record { calls = with_call w.calls e (Open moment command); log = if b then Opened (asked_by setting w moment e command) ∷ w.log else w.log }) moment
       go false refused = joined_call w now moment e (Open moment command) j later ordered last refl
       go true accepted =
           let both = calls_in_order w now moment e (Open moment command) j later refl ordered last in

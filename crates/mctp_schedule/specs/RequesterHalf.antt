@@ -13,7 +13,7 @@ use Rattle.mctp_schedule.specs.FirstArrivals.{first, order}
 use Rattle.mctp_schedule.specs.OncePerformed.{RepliesFit, once}
 use Rattle.mctp_schedule.specs.HandedPackets.{got_of_busy, got_of_reply}
 use Rattle.mctp_schedule.specs.TakenReplies.{busy_expected, came, completes, is_waiting, reply_of, reply_expected, taken}
-use Rattle.mctp_schedule.specs.Worlds.{IsTimely, IsTimelyAction, NeverWentBack, BothEnds, requests_of, timing_of, world}
+use Rattle.mctp_schedule.specs.Worlds.{IsTimely, IsTimelyAction, NeverWentBack, BothEnds, requests_of, pace_of, timing_of, world}
 use Rattle.schedule_text.specs.declared.step.Action.TheVariants.{Reply, Busy}
 use Rattle.schedule_text.specs.declared.step.Step.{Step}
 
@@ -59,7 +59,7 @@ module _ {S : Type 0} (setting : BothEnds S) where
       → IsTimelySchedule setting steps → asked_at (world setting steps).log k ≡ Some r
       → is_waiting setting (world setting steps) r ≡ true
       → assembly.since (answer_key setting.eid (tag_of r.own))
-      (assembled r.source setting.eid (timing_of setting r.source) ((world setting steps).calls r.source))
+      (assembled r.source setting.eid (timing_of setting r.source) (pace_of setting r.source) ((world setting steps).calls r.source))
       ≡ came setting steps k r
 
   -- what the packet of a reply gives at its requester is what the definitions owe to it

@@ -23,7 +23,7 @@ use Rattle.mctp_schedule.specs.PerformedCommands.{commands_at_step}
 use Rattle.mctp_schedule.specs.Places.{side_at}
 use Rattle.mctp_schedule.specs.Timely.{ids_arrived}
 use Rattle.schedule_text.specs.Schedules.{has_requester, is_known}
-use Rattle.mctp_schedule.specs.Worlds.{BothEnds, World, answer_packets, is_timely, requests_of, time_now, timing_of, world}
+use Rattle.mctp_schedule.specs.Worlds.{BothEnds, World, answer_packets, is_timely, requests_of, time_now, pace_of, timing_of, world}
 use Rattle.mctp_schedule.specs.declared.entry.Entry.{Entry}
 use Rattle.schedule_text.specs.declared.step.RequesterLine.{RequesterLine}
 use Rattle.schedule_text.specs.declared.step.Action.{Action}
@@ -57,7 +57,7 @@ pub record IsOpened {S : Type 0} (setting : BothEnds S) (w : World) (k : ℕ) (r
 pub record IsSide {S : Type 0} (setting : BothEnds S) (w : World) (now e : ℕ) (side : Side) : Type 0 where
   pub endpoint : IsEid e
   pub other : e ≢ setting.eid
-  pub left : requester_laws.IsLeftBy e setting.eid (timing_of setting e) (held_of side.station) (w.calls e)
+  pub left : requester_laws.IsLeftBy e setting.eid (timing_of setting e) (pace_of setting e) (held_of side.station) (w.calls e)
   pub numbers : side.numbers ≡ numbers_of w.log e
   pub counted : length (numbers_of w.log e) ≡ (requests_of setting w e).count
   pub numbered : (own k : ℕ) → slice_get (numbers_of w.log e) own ≡ Some k

@@ -8,6 +8,8 @@ use Rattle.pldm_responder.specs.Performing.{Rules, busy_reply}
 use Rattle.pldm_requester.specs.Calls as requester
 use Rattle.pldm_requester.specs.Calls.{accepts, requests}
 use Rattle.pldm_requester.specs.Numbering.{message_of}
+use Rattle.pldm_requester.specs.Pacing.{at_default}
+use Rattle.pldm_requester.specs.declared.pace.Pace.{Pace}
 use Rattle.pldm_requester.specs.declared.timing.Timing.{Timing}
 use Rattle.mctp_schedule.specs.FirstArrivals.{has_arrived}
 use Rattle.mctp_schedule.specs.Logs.{Asked, Happening, Opened, Delivered, Sensed, WentDown, asked_at, message_at}
@@ -42,6 +44,10 @@ timing_from keep (Some line) = record { keep = keep; timeout = line.timeout; tri
 abbrev pub timing_of : {S : Type 0} → BothEnds S → ℕ → Timing
 timing_of setting e = timing_from setting.keep (find (is_requester e) setting.requesters)
 
+-- its pace: it goes by the keeping time
+abbrev pub pace_of : {S : Type 0} → BothEnds S → ℕ → Pace
+pace_of setting e = at_default (timing_of setting e).keep
+
 -- one more call of the requester at endpoint e
 abbrev pub with_call : (ℕ → List requester.Call) → ℕ → requester.Call → ℕ → List requester.Call
 with_call calls e call d = if d == e then call ∷ calls d else calls d
@@ -57,7 +63,7 @@ answer_packets own r message = packets_back own (message_at r.opening r) message
 module _ {S : Type 0} (setting : BothEnds S) where
   -- the requests of the requester at an endpoint
   abbrev pub requests_of : World → ℕ → requester.Requests
-  requests_of world e = requests e setting.eid (timing_of setting e) (world.calls e)
+  requests_of world e = requests e setting.eid (timing_of setting e) (pace_of setting e) (world.calls e)
 
   -- the request that an accepted open makes
   abbrev pub asked_by : World → ℕ → ℕ → Command → Asked
@@ -68,7 +74,7 @@ module _ {S : Type 0} (setting : BothEnds S) where
   -- an open happens on the link where the requester accepts it
   abbrev pub log_opened : World → ℕ → ℕ → Command → List Happening
   log_opened world moment e command =
-      if accepts (timing_of setting e).keep (requests_of world e) moment
+      if accepts (timing_of setting e).keep (pace_of setting e) (requests_of world e) moment
       then Opened (asked_by world moment e command) ∷ world.log
       else world.log
 

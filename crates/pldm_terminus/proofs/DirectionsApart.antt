@@ -51,7 +51,7 @@ brings_no_answer held moment bytes e =
     let none = no_answer held bytes e in (
       (none.0, ap (λ (r : Result Packet Reason). got_of (arrived_by held r)) none.1),
       subst (λ (r : Result Packet Reason). IsHeld (record (held_by held r) { last = moment }) (record held { last = moment })) (sym none.1)
-          (record { own = refl; device = refl; timing = refl; count = refl; remembered = λ n. refl; open_messages = refl; last = refl }),
+          (record { own = refl; device = refl; timing = refl; pace = refl; count = refl; remembered = λ n. refl; open_messages = refl; last = refl }),
     )
 
 pub asks_nothing : AsksNothing

@@ -5,6 +5,7 @@ use Rattle.pldm_requester.specs.Calls as requester
 use Rattle.pldm_requester.specs.Laws.{IsInOrder, IsLeftBy}
 use Rattle.pldm_requester.specs.Steps.{IsHeld, RequesterState, accepts, got_at, opened_held, received_held, ticked_held}
 use Rattle.pldm_requester.specs.declared.results.Got.TheVariants.{Dropped}
+use Rattle.pldm_requester.specs.declared.pace.Pace.{Pace}
 use Rattle.pldm_requester.specs.declared.timing.Timing.{Timing}
 use Rattle.pldm_responder.specs.Arrivals.{request_packet}
 use Rattle.pldm_wire.specs.declared.command.Command.{Command}
@@ -52,9 +53,9 @@ asking_after held Answers = held
 -- is what looking back over the calls that it saw says
 abbrev pub AskingLooksBack : Type 0
 AskingLooksBack =
-    (own device : ℕ) (timing : Timing) (held : RequesterState) (calls : List TerminusCall) (call : TerminusCall)
-    → IsLeftBy own device timing held (asking_calls calls)
-    → IsLeftBy own device timing (asking_after held call) (asking_calls (call ∷ calls))
+    (own device : ℕ) (timing : Timing) (pace : Pace) (held : RequesterState) (calls : List TerminusCall) (call : TerminusCall)
+    → IsLeftBy own device timing pace held (asking_calls calls)
+    → IsLeftBy own device timing pace (asking_after held call) (asking_calls (call ∷ calls))
 
 -- ---- a requester that begins anew
 -- when a requester began, and its calls since, the newest first
@@ -62,23 +63,23 @@ pub record Incarnation : Type 0 where
   pub begun : ℕ
   pub calls : List requester.Call
 
-module _ (own device : ℕ) (timing : Timing) where
+module _ (own device : ℕ) (timing : Timing) (pace : Pace) where
   -- how many requests it opened, and when it opened each
   abbrev pub count_in : Incarnation → ℕ
-  count_in i = (requester.requests own device timing i.calls).count
+  count_in i = (requester.requests own device timing pace i.calls).count
 
   abbrev pub opening_in : Incarnation → ℕ → ℕ
-  opening_in i n = ((requester.requests own device timing i.calls).each n).course.opening
+  opening_in i n = ((requester.requests own device timing pace i.calls).each n).course.opening
 
   -- it began at the last moment of the one before, or later
   abbrev pub Follows : Incarnation → List Incarnation → Type 0
   Follows i [] = Unit {0}
   Follows i (before ∷ past) =
-      (before.begun ≤ i.begun) × (requester.last_moment own device timing before.calls ≤ i.begun)
+      (before.begun ≤ i.begun) × (requester.last_moment own device timing pace before.calls ≤ i.begun)
 
   -- each opens nothing before twice the keeping time has passed since it began; the newest stands first
   pub record IsRested (i : Incarnation) (past : List Incarnation) : Type 0 where
-    pub order : IsInOrder own device timing i.calls
+    pub order : IsInOrder own device timing pace i.calls
     pub rested : (n : ℕ) → n < count_in i → i.begun + 2 * timing.keep ≤ opening_in i n
     pub follows : Follows i past
 
@@ -89,8 +90,8 @@ module _ (own device : ℕ) (timing : Timing) where
 -- so whatever their numbers, two requests of different incarnations are opened twice the keeping time apart, or more
 abbrev pub ApartOverRestarts : Type 0
 ApartOverRestarts =
-    (own device : ℕ) (timing : Timing) (all : List Incarnation) (place other : ℕ) (new old : Incarnation) (n m : ℕ)
-    → AreRested own device timing all
+    (own device : ℕ) (timing : Timing) (pace : Pace) (all : List Incarnation) (place other : ℕ) (new old : Incarnation) (n m : ℕ)
+    → AreRested own device timing pace all
     → place < other → slice_get all place ≡ Some new → slice_get all other ≡ Some old
-    → n < count_in own device timing new → m < count_in own device timing old
-    → opening_in own device timing old m + 2 * timing.keep ≤ opening_in own device timing new n
+    → n < count_in own device timing pace new → m < count_in own device timing pace old
+    → opening_in own device timing pace old m + 2 * timing.keep ≤ opening_in own device timing pace new n

@@ -19,6 +19,18 @@ use Rattle.mctp_schedule.proofs.NumberedRequests.{get_index, listed_own}
 use Rattle.mctp_schedule.proofs.AfterTick.{tick_runs}
 use Rattle.mctp_schedule.proofs.both_ends.Ends.tick.Goals as goal
 
+pub tick-due-requires : goal.tick-due-requires
+tick-due-requires g c =
+    let running = c.requires.2 in
+    let may = c.requires.3 in
+    let e = c.args.eid in
+    let s = running.sides e may.known in
+    let same = place_holds c.args.self.now.places.items e c.from.result c.index_mut.result.now s.0 c.in-Some.asker (c.from.ensures ∙ c.get.ensures.value) c.index_mut.ensures.value s.1 c.in-Some.is in
+    let last = ap (λ (a : Side). (held_of a.station).last) same in
+    let called = s.2.called in
+    let later = may.later in
+    omega (arith, last, called, later)
+
 pub enter_due-requires-clause-numbered : goal.enter_due-requires-clause-numbered
 enter_due-requires-clause-numbered g c =
     let terms = c.requires.0 in
