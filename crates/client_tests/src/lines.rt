@@ -1,6 +1,6 @@
 //! A line that gives these pieces, the clock beside it, what is asked on it, and what was written.
 
-use mctp_control::Query;
+use mctp_control::AnyQuery;
 use mctp_packet::{Eid, Keep};
 use pldm_line::{AskFault, Asked, BeginFault, Ended, ListTicks, Port, ask, ask_control, begin};
 use pldm_requester::Timing;
@@ -38,7 +38,7 @@ pub enum AskedOf<'a> {
     /// The command GetTID.
     Command,
     /// A control query, in so many tries of 100 ms each.
-    Query { query: &'a Query, tries: u8 },
+    Query { query: &'a AnyQuery, tries: u8 },
 }
 
 /// What came of a line: how it ended, the message of the answer where one came, and what was written.

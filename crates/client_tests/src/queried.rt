@@ -1,7 +1,7 @@
 //! One control query: when its frame goes out, and which answer is believed.
 
 use crate::lines::{AskedOf, NOTHING, Outcome, ends, expect_end, run_line};
-use mctp_control::{Command, Query};
+use mctp_control::{AnyQuery, Command, Query};
 use mctp_packet::Tag;
 use mctp_serial::frame;
 use pldm_line::{AskFault, Ended};
@@ -27,7 +27,7 @@ const MESSAGE: &[u8] = &[0x00, 0x05, 0x02, 0x00, 0x09, 0x00, 0x00];
 fn run(rt: &impl Abort, alloc: Global, tries: u8, pieces: &[&[u8]], readings: &[u64]) -> Outcome {
     let (own, device) = ends(rt);
     let tag = Tag::new(2).expect(rt, "a tag");
-    let query = Query::new(own, device, tag, 5, Command::GetEndpointId);
+    let query = AnyQuery::ToDevice(Query::new(own, device, tag, 5, Command::GetEndpointId));
     let question = AskedOf::Query {
         query: &query,
         tries,

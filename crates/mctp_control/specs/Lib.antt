@@ -1,3 +1,4 @@
+pub mod AnyQueries
 pub mod AnswerReading
 pub mod Answers
 pub mod Assignments
@@ -7,6 +8,7 @@ pub mod Commands
 pub mod Dropped
 pub mod Histories
 pub mod Laws
+pub mod LinkQueries
 pub mod Lists
 pub mod Messages
 pub mod Packets

@@ -5,6 +5,7 @@
 mod answer;
 mod answer_reading;
 mod answer_writing;
+mod any_query;
 mod assigned;
 mod code;
 mod command;
@@ -14,6 +15,7 @@ mod control_responder;
 mod dropped;
 mod kept_assignments;
 pub mod laws;
+mod link_query;
 mod message;
 mod message_types;
 mod packet_header;
@@ -23,6 +25,7 @@ mod versions;
 pub use answer::{Answer, Assignment, EidKind, EndpointKind};
 pub use answer_reading::read_answer;
 pub use answer_writing::write_answer;
+pub use any_query::AnyQuery;
 pub use assigned::{
     BASE_SPECIFICATION, CONTROL, GET_ENDPOINT_ID, GET_ENDPOINT_UUID, GET_MESSAGE_TYPE_SUPPORT,
     GET_VERSION_SUPPORT, INSTANCE_IDS, MAX_DATA, MAX_MESSAGE_TYPES, MAX_VERSION_BYTES,
@@ -36,6 +39,7 @@ pub use command_reading::read_command;
 pub use command_writing::write_command;
 pub use control_responder::{ControlPacket, ControlResponder};
 pub use kept_assignments::{KEPT_ASSIGNMENTS, KeptAssignment, KeptAssignments};
+pub use link_query::LinkQuery;
 pub use message::{RequestRef, ResponseRef, read_request, read_response};
 pub use message_types::MessageTypes;
 pub use query::Query;

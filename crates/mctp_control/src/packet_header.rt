@@ -5,9 +5,10 @@
 
 ghost use Rattle.std.specs.Prelude.{◌≡◌, ◌%◌, ◌==◌};
 ghost use Rattle.mctp_packet.specs.declared.TheConstants.{VERSION};
+ghost use Rattle.mctp_control.specs.LinkQueries.{is_whole_answer, request_flags};
 ghost use Rattle.mctp_control.specs.Packets.{is_whole_request, reply_flags};
 
-use mctp_packet::{TAGS, VERSION};
+use mctp_packet::{TAGS, Tag, VERSION};
 
 /// The header version, the four lowest bits of the first byte. The others are reserved.
 const VERSION_BITS: u8 = 0x0f;
@@ -41,4 +42,18 @@ pub(crate) fn reply_flags(flags: u8) -> u8
     ensures { result ≡ reply_flags flags }
 {
     (WHOLE_MESSAGE << ENDS_SHIFT) + flags % TAGS
+}
+
+/// The flags of the packet that asks on a tag: a whole message, whose source chose the tag.
+pub(crate) fn request_flags(tag: Tag) -> u8
+    ensures { result ≡ request_flags tag }
+{
+    (WHOLE_MESSAGE << ENDS_SHIFT) + (1 << TAG_OWNER_SHIFT) + tag.get()
+}
+
+/// Whether these are the flags of a whole message on this tag, which its source did not choose.
+pub(crate) fn is_whole_answer(tag: Tag, flags: u8) -> bool
+    ensures { result ≡ is_whole_answer tag flags }
+{
+    flags >> ENDS_SHIFT == WHOLE_MESSAGE && flags % (2 * TAGS) == tag.get()
 }

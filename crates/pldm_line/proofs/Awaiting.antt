@@ -3,7 +3,8 @@ use Rattle.std.proofs.Common.{◌≡◌, ℕ, Bool, true, false, List, [], ◌�
 use Rattle.std.specs.Option.{option_or}
 use Rattle.std.specs.Io.KnownBytes.{Appends, Consumes, Keeps}
 use Rattle.std.proofs.KnownBytes.{Appends-trans, Consumes-trans, Consumes-nil}
-use Rattle.mctp_control.specs.Queries.{ControlQuery, answer_in, query_packet}
+use Rattle.mctp_control.specs.AnyQueries.{any_answer_in, any_packet}
+use Rattle.mctp_control.specs.declared.any_query.AnyQuery.{AnyQuery}
 use Rattle.mctp_serial.specs.Readings.{Reading, after, events_in, step, then_event}
 use Rattle.mctp_serial.specs.declared.reader.FrameEvent.{FrameEvent}
 use Rattle.mctp_serial.specs.declared.reader.FrameEvent.TheVariants.{Nothing, Packet, Dropped}
@@ -17,7 +18,7 @@ use Rattle.pldm_line.specs.declared.tries.Tries.{Tries}
 use Rattle.pldm_line.specs.Serving.{packets_in, packets_of}
 
 -- the answer was awaited, by what is kept meanwhile: what was seen, and the tries
-pub record AwaitsSo (q : ControlQuery) (again most : ℕ) (w : WantedAnswer) (tries : Tries) (s s1 : Shown) : Type 0 where
+pub record AwaitsSo (q : AnyQuery) (again most : ℕ) (w : WantedAnswer) (tries : Tries) (s s1 : Shown) : Type 0 where
   pub awaits : Awaits q again most s s1
   pub seen : w ≡ wanted_of (Some q) (answer_after q s.asking awaits.turns)
   pub tried : tries ≡ tries_after q again most s.asking awaits.turns
@@ -54,31 +55,31 @@ or_assoc : (a b c : Option (List ℕ)) → option_or (option_or a b) c ≡ optio
 or_assoc None b c = refl
 or_assoc (Some message) b c = refl
 
-first_append : (q : ControlQuery) (packets more : List (List ℕ)) → first_answer q (packets ++ more) ≡ option_or (first_answer q packets) (first_answer q more)
+first_append : (q : AnyQuery) (packets more : List (List ℕ)) → first_answer q (packets ++ more) ≡ option_or (first_answer q packets) (first_answer q more)
 first_append q [] more = refl
 first_append q (packet ∷ packets) more =
-    ap (λ (o : Option (List ℕ)). option_or (answer_in q packet) o) (first_append q packets more)
-    ∙ sym (or_assoc (answer_in q packet) (first_answer q packets) (first_answer q more))
+    ap (λ (o : Option (List ℕ)). option_or (any_answer_in q packet) o) (first_append q packets more)
+    ∙ sym (or_assoc (any_answer_in q packet) (first_answer q packets) (first_answer q more))
 
-seen_all : (q : ControlQuery) (answer : Option (List ℕ)) (packets : List (List ℕ)) → all_seen (wanted_of (Some q) answer) packets ≡ wanted_of (Some q) (option_or answer (first_answer q packets))
+seen_all : (q : AnyQuery) (answer : Option (List ℕ)) (packets : List (List ℕ)) → all_seen (wanted_of (Some q) answer) packets ≡ wanted_of (Some q) (option_or answer (first_answer q packets))
 seen_all q answer [] = ap (λ (o : Option (List ℕ)). wanted_of (Some q) o) (sym (or_none answer))
 seen_all q answer (packet ∷ packets) =
-    seen_all q (option_or answer (answer_in q packet)) packets
-    ∙ ap (λ (o : Option (List ℕ)). wanted_of (Some q) o) (or_assoc answer (answer_in q packet) (first_answer q packets))
+    seen_all q (option_or answer (any_answer_in q packet)) packets
+    ∙ ap (λ (o : Option (List ℕ)). wanted_of (Some q) o) (or_assoc answer (any_answer_in q packet) (first_answer q packets))
 
 reading_after : (a : Asking) (turns : List Turn) → (after_turns a turns).reading ≡ after a.reading (bytes_read turns)
 reading_after a [] = refl
 reading_after a (turn ∷ turns) =
     ap (λ (r : Reading). after r turn.bytes) (reading_after a turns) ∙ sym (after_append a.reading (bytes_read turns) turn.bytes)
 
-answer_more : (q : ControlQuery) (a : Asking) (turn : Turn) (turns : List Turn) → answer_after q a (turn ∷ turns)
+answer_more : (q : AnyQuery) (a : Asking) (turn : Turn) (turns : List Turn) → answer_after q a (turn ∷ turns)
     ≡ option_or (answer_after q a turns) (first_answer q (packets_in (after_turns a turns).reading turn.bytes))
 answer_more q a turn turns =
     ap (λ (l : List (List ℕ)). first_answer q l) (packets_append a.reading (bytes_read turns) turn.bytes)
     ∙ first_append q (packets_in a.reading (bytes_read turns)) (packets_in (after a.reading (bytes_read turns)) turn.bytes)
     ∙ ap (λ (r : Reading). option_or (answer_after q a turns) (first_answer q (packets_in r turn.bytes))) (sym (reading_after a turns))
 
-pub seen_more : (q : ControlQuery) (a now : Asking) (w w1 : WantedAnswer) (turn : Turn) (turns : List Turn) → now ≡ after_turns a turns
+pub seen_more : (q : AnyQuery) (a now : Asking) (w w1 : WantedAnswer) (turn : Turn) (turns : List Turn) → now ≡ after_turns a turns
     → w ≡ wanted_of (Some q) (answer_after q a turns) → w1 ≡ all_seen w (packets_in now.reading turn.bytes)
     → w1 ≡ wanted_of (Some q) (answer_after q a (turn ∷ turns))
 seen_more q a now w w1 turn turns at before seen =
@@ -88,7 +89,7 @@ seen_more q a now w w1 turn turns at before seen =
     ∙ ap (λ (now : Asking). wanted_of (Some q) (option_or (answer_after q a turns) (first_answer q (packets_in now.reading turn.bytes)))) at
     ∙ ap (λ (o : Option (List ℕ)). wanted_of (Some q) o) (sym (answer_more q a turn turns))
 
-abbrev pub more : (q : ControlQuery) (again most : ℕ) (w w1 : WantedAnswer) (tries tries1 : Tries) (s s1 s2 : Shown) → AwaitsSo q again most w tries s s1
+abbrev pub more : (q : AnyQuery) (again most : ℕ) (w w1 : WantedAnswer) (tries tries1 : Tries) (s s1 s2 : Shown) → AwaitsSo q again most w tries s s1
     → is_end s1.asking.quiet ≡ false → w.answer ≡ None → is_over tries s1.asking.held.last ≡ false
     → TakesQueryTurn q w w1 tries tries1 s1 s2 → AwaitsSo q again most w1 tries1 s s2
 more q again most w w1 tries tries1 s s1 s2 f going none lasts g =
@@ -134,8 +135,8 @@ more q again most w w1 tries tries1 s s1 s2 f going none lasts g =
     }
 
 -- the frame went out, and no turn was taken yet
-abbrev pub begun : (q : ControlQuery) (again most : ℕ) (s s1 : Shown) → s1.asking ≡ s.asking → s1.left ≡ s.left → s1.clock ≡ s.clock
-    → Appends s.written s1.written (framed (query_packet q))
+abbrev pub begun : (q : AnyQuery) (again most : ℕ) (s s1 : Shown) → s1.asking ≡ s.asking → s1.left ≡ s.left → s1.clock ≡ s.clock
+    → Appends s.written s1.written (framed (any_packet q))
     → AwaitsSo q again most (wanted_of (Some q) None) (tries_from again most s.asking.held.last) s s1
 begun q again most s s1 asking left clock wrote = record {
   awaits = record {
@@ -151,7 +152,7 @@ begun q again most s s1 asking left clock wrote = record {
 }
 
 -- it ended by the answer or by the tries
-pub ended : (q : ControlQuery) (again most : ℕ) (w : WantedAnswer) (tries : Tries) (s s1 : Shown) (answer : Option (List ℕ)) → AwaitsSo q again most w tries s s1
+pub ended : (q : AnyQuery) (again most : ℕ) (w : WantedAnswer) (tries : Tries) (s s1 : Shown) (answer : Option (List ℕ)) → AwaitsSo q again most w tries s s1
     → answer ≡ w.answer → (w.answer ≡ None → is_over tries s1.asking.held.last ≡ true) → AsksQuery q again most answer s s1
 ended q again most w tries s s1 answer f is over =
     let so_far : Tries = tries_after q again most s.asking f.awaits.turns in
@@ -163,7 +164,7 @@ ended q again most w tries s s1 answer f is over =
           (subst (λ (t : Tries). is_over t s1.asking.held.last ≡ true) f.tried (over (sym is ∙ none)));
     }
 
-pub stops : (q : ControlQuery) (again most : ℕ) (w : WantedAnswer) (tries : Tries) (fault : AskFault) (s last s1 : Shown) → (f : AwaitsSo q again most w tries s last)
+pub stops : (q : AnyQuery) (again most : ℕ) (w : WantedAnswer) (tries : Tries) (fault : AskFault) (s last s1 : Shown) → (f : AwaitsSo q again most w tries s last)
     → Keeps last.written s1.written → StopsFor fault f.awaits.turns last s1 → StopsQuery q again most fault s s1
 stops q again most w tries fault s last s1 f kept reason = record { last = last; awaits = f.awaits; kept = kept; reason = reason }
 

@@ -6,7 +6,7 @@ use Rattle.pldm_line.specs.Asked.{FailsTurn, Goes, Listens, Shown, Stops, StopsF
 use Rattle.pldm_line.specs.Ends.{IsRefused}
 use Rattle.pldm_line.specs.Turns.{Asking, Turn, after_turn, after_turns, all_sent, bytes_read, is_end, readings, sent_frames}
 use Rattle.pldm_line.specs.declared.ask_fault.AskFault.{AskFault}
-use Rattle.pldm_line.specs.declared.ask_fault.AskFault.TheVariants.{LineEnded, Read, Write, Clock, Memory, TooMany}
+use Rattle.pldm_line.specs.declared.ask_fault.AskFault.TheVariants.{LineEnded, Read, Write, Clock, Memory, TooMany, Unread}
 use Rattle.pldm_requester.specs.Steps.{accepts}
 
 pub turned_more : (s : Shown) (turns : List Turn) (s1 : Shown) (turn : Turn) (s2 : Shown) → Turned s turns s1 → Turned s1 (turn ∷ []) s2 → Turned s (turn ∷ turns) s2
@@ -50,6 +50,7 @@ failed_turn Write turns last s1 f = f
 failed_turn Clock turns last s1 f = f
 failed_turn Memory turns last s1 f = f
 failed_turn TooMany turns last s1 f = absurd f
+failed_turn Unread turns last s1 f = f
 
 -- one turn more is counted
 pub one_more : (turn : Turn) (turns : List Turn) (count : ℕ) → length turns ≡ count → length (turn ∷ turns) ≡ count + 1

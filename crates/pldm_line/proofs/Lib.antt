@@ -10,6 +10,7 @@ pub mod LinesHaveBytes
 pub mod LogsSeen
 pub mod Opening
 pub mod PacketsHeard
+pub mod QueryTaken
 pub mod SameRequester
 pub mod SameResponder
 pub mod Sending
@@ -18,3 +19,4 @@ pub mod Silent
 pub mod TextsAdded
 pub mod Turning
 pub mod WorkedLines
+mod HeardPackets

@@ -8,6 +8,7 @@ same_held same =
       own = same.own i;
       device = same.device i;
       timing = same.timing i;
+      pace = same.pace i;
       count = same.count i;
       remembered = λ number. same.remembered number i;
       open_messages = same.open_messages i;

@@ -117,6 +117,7 @@ FailsTurn faults.Write s s1 = Unit {0}
 FailsTurn faults.Clock s s1 = HasNoMore s.clock
 FailsTurn faults.Memory s s1 = LacksMemory s s1
 FailsTurn faults.TooMany s s1 = ⊥
+FailsTurn faults.Unread s s1 = ⊥
 
 -- why a line stopped after these turns: its end had come, there were too many, or one turn more failed
 abbrev pub StopsFor : AskFault → List Turn → (last s1 : Shown) → Type 0
@@ -126,6 +127,7 @@ StopsFor faults.Read turns last s1 = FailsTurn faults.Read last s1
 StopsFor faults.Write turns last s1 = FailsTurn faults.Write last s1
 StopsFor faults.Clock turns last s1 = FailsTurn faults.Clock last s1
 StopsFor faults.Memory turns last s1 = FailsTurn faults.Memory last s1
+StopsFor faults.Unread turns last s1 = FailsTurn faults.Unread last s1
 
 -- turns were taken, and then no more was written
 pub record Stops (waits : Asking → Type 0) (fault : AskFault) (s s1 : Shown) : Type 0 where

@@ -1,5 +1,5 @@
 -- What a clause reads of a clock: its readings to come, and what the clock of the system said.
-use Rattle.std.specs.Prelude.{◌≡◌, ℕ, ◌-◌, ◌/◌, ◌^◌, min, List, [], Option, IfSome}
+use Rattle.std.specs.Prelude.{◌≡◌, ℕ, ◌+◌, ◌-◌, ◌/◌, ◌^◌, map, min, List, [], Option, IfSome, option_map}
 use Rattle.std.specs.Time.{instant_nanos}
 use Rattle.pldm_line.specs.declared.ticks.SystemTicks.{SystemTicks}
 
@@ -18,3 +18,7 @@ start_of ticks = instant_nanos ticks.start
 
 abbrev pub latest_of : {C : Type 0} → SystemTicks C → ℕ
 latest_of ticks = instant_nanos ticks.latest
+
+-- the readings of a clock, each so much later, and at most what 64 bits hold
+abbrev pub later_readings : ℕ → Option (List ℕ) → Option (List ℕ)
+later_readings by to_come = option_map (λ readings. map (λ reading. min (reading + by) (2 ^ 64 - 1)) readings) to_come

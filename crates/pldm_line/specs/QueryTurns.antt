@@ -2,7 +2,8 @@
 use Rattle.std.specs.Io.KnownBytes.{Appends, Consumes}
 use Rattle.std.specs.Option.{option_or}
 use Rattle.std.specs.Prelude.{◌≡◌, ℕ, List, [], ◌∷◌, ◌++◌, Option, option_and_then}
-use Rattle.mctp_control.specs.Queries.{ControlQuery, answer_in}
+use Rattle.mctp_control.specs.AnyQueries.{any_answer_in}
+use Rattle.mctp_control.specs.declared.any_query.AnyQuery.{AnyQuery}
 use Rattle.mctp_serial.specs.Readings.{Reading, step}
 use Rattle.pldm_line.specs.Asked.{Shown, Turned}
 use Rattle.pldm_line.specs.Queries.{query_frame}
@@ -13,15 +14,15 @@ use Rattle.pldm_line.specs.Serving.{packets_in}
 
 -- the query whose answer is wanted, if one is, and the message that answered it first
 pub record WantedAnswer : Type 0 where
-  pub query : Option ControlQuery
+  pub query : Option AnyQuery
   pub answer : Option (List ℕ)
 
-abbrev pub wanted_of : Option ControlQuery → Option (List ℕ) → WantedAnswer
+abbrev pub wanted_of : Option AnyQuery → Option (List ℕ) → WantedAnswer
 wanted_of query answer = record { query = query; answer = answer }
 
 -- a packet was seen, or packets were
 abbrev pub seen : WantedAnswer → List ℕ → WantedAnswer
-seen w packet = wanted_of w.query (option_or w.answer (option_and_then (λ q. answer_in q packet) w.query))
+seen w packet = wanted_of w.query (option_or w.answer (option_and_then (λ q. any_answer_in q packet) w.query))
 
 abbrev pub all_seen : WantedAnswer → List (List ℕ) → WantedAnswer
 all_seen w [] = w
@@ -41,7 +42,7 @@ pub record TakesTurnSeeing (w w1 : WantedAnswer) (s s1 : Shown) : Type 0 where
   pub seen : w1 ≡ all_seen w (packets_in s.asking.reading turn.bytes)
 
 -- the same, and then the frame of the query went out where it goes out again
-pub record TakesQueryTurn (q : ControlQuery) (w w1 : WantedAnswer) (tries tries1 : Tries) (s s1 : Shown) : Type 0 where
+pub record TakesQueryTurn (q : AnyQuery) (w w1 : WantedAnswer) (tries tries1 : Tries) (s s1 : Shown) : Type 0 where
   pub turn : Turn
   pub asking : s1.asking ≡ after_turn s.asking turn
   pub read : Consumes s.left s1.left turn.bytes

@@ -22,6 +22,8 @@ pub enum AskFault {
     Memory = 5,
     /// The input came in more than `u64::MAX` pieces.
     TooMany = 6,
+    /// Nobody reads any more what is printed of the answers.
+    Unread = 7,
 }
 
 impl AskFault {
@@ -36,6 +38,7 @@ impl AskFault {
             AskFault::Clock => "clock fault",
             AskFault::Memory => "out of memory",
             AskFault::TooMany => "too many pieces of input",
+            AskFault::Unread => "nobody reads the output",
         }
     }
 }

@@ -1,10 +1,13 @@
 //! A line that asks: it listens until requests may be opened, opens one, and follows it until it has ended.
 
-ghost use Rattle.std.specs.Prelude.{◌≡◌, ◌≢◌, ◌*◌, ◌<◌, ◌^◌, Some, Err, option_map, IfOk, IfErr, OnOk, true, false};
+ghost use Rattle.std.specs.Prelude.{◌≡◌, ◌≢◌, ℕ, ◌*◌, ◌<◌, ◌≤◌, ◌^◌, Some, Err, option_map, IfOk, IfErr, OnOk, true, false};
 ghost use Rattle.std.specs.Io.KnownBytes.{Keeps};
 ghost use Rattle.pldm_line.specs.Asked.{AskStops, Asks, ChecksTiming, Goes, Listens, Opens, OpensNow, Stops, StopsBeginning, StopsListening, StopsOpening, asking_of, begun_as, shown};
 ghost use Rattle.pldm_line.specs.Ends.{IsWaiting, answer_of, ended_of};
 ghost use Rattle.mctpctl_input.specs.Ports.{inner_of, has_failed, BothWork, ReportsFailed, ReportsFailedPorts, StaysFlushed};
+ghost use Rattle.pldm_line.specs.Turns.{quiet_from};
+ghost use Rattle.mctp_serial.specs.Readings.{idle};
+ghost use Rattle.pldm_requester.specs.Resuming.{AreKnown, AreLeft};
 ghost use Rattle.pldm_requester.specs.Slots.{held_of};
 ghost use Rattle.pldm_requester.specs.Steps.{accepts};
 ghost use Rattle.pldm_requester.specs.declared.requester.TheConstants.{MAX_REMEMBERED};
@@ -16,7 +19,7 @@ use crate::turn::{send_request, take_turn};
 use mctp_packet::{Eid, Moment};
 use mctp_serial::FrameReader;
 use mctpctl_input::Port;
-use pldm_requester::{OpenFault, Requester, Status, Timing};
+use pldm_requester::{OpenFault, Openings, Requester, Status, Timing};
 use pldm_wire::Command;
 use std::alloc::Global;
 use std::io::{Read, Write};
@@ -60,11 +63,19 @@ impl<C> AskingLine<C> {
         }
     }
 
-    /// The last reading of the clock, in milliseconds since the line was begun; it never goes back.
+    /// The last reading of the line's clock, in milliseconds; it never goes back.
     pub fn moment(&self) -> Moment
         ensures { result ≡ (held_of self.now.requester).last }
     {
         self.requester.last_moment()
+    }
+
+    /// When the last request with each instance ID was opened, for a line that is to go on ([`resume`]).
+    pub fn openings(&self) -> Openings
+        ensures left { AreLeft (held_of self.now.requester) result }
+        ensures known { (now : ℕ) → (held_of self.now.requester).last ≤ now → AreKnown now result }
+    {
+        self.requester.openings()
     }
 
     /// How a request ended, where it has.
@@ -157,6 +168,25 @@ pub fn begin_after<C: Ticks + Drop, R: Read, W: Write>(
     match listen(&mut line, span, reader, writer) {
         Ok(()) => Ok(line),
         Err(fault) => Err(BeginFault::Line(fault)),
+    }
+}
+
+/// A line that goes on where an earlier one stopped, with a requester that knows when that one's requests were opened
+/// ([`Requester::resumed`]), by a clock that has the same start. A request may be opened at once.
+pub fn resume<C>(requester: Requester, ticks: C) -> AskingLine<C>
+    ensures { result ≡ record {
+      frames = idle;
+      requester = requester;
+      quiet = quiet_from (held_of requester).last;
+      ticks = ticks;
+    } }
+{
+    let moment = requester.last_moment();
+    AskingLine {
+        frames: FrameReader::new(),
+        requester,
+        quiet: Quiet::new(moment),
+        ticks,
     }
 }
 
@@ -308,8 +338,13 @@ fn open_now<C, W: Write>(
 {
     let opened = match line.requester.open(line.requester.last_moment(), command) {
         Ok(opened) => opened,
-        Err(OpenFault::Memory(_)) => return Err(AskFault::Memory),
-        Err(_) => return Ok(None),
+        Err(fault) => {
+            return match fault {
+                OpenFault::Memory(_) => Err(AskFault::Memory),
+                OpenFault::TagInUse => Ok(None),
+                OpenFault::IdInUse => Ok(None),
+            };
+        }
     };
     match send_request(&line.requester, opened.number, writer) {
         Ok(()) => Ok(Some(opened.number)),

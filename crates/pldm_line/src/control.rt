@@ -4,6 +4,7 @@ ghost use Rattle.std.specs.Prelude.{◌≡◌, ◌≢◌, IfOk, IfErr, OnOk, fal
 ghost use Rattle.std.specs.Io.KnownBytes.{Appends, Keeps};
 ghost use Rattle.pldm_line.specs.Asked.{FailsTurn, shown};
 ghost use Rattle.pldm_line.specs.Queries.{AsksQuery, StopsQuery, query_frame};
+ghost use Rattle.pldm_line.specs.QueryTries.{is_again};
 ghost use Rattle.pldm_line.specs.QueryTurns.{TakesQueryTurn};
 ghost use Rattle.mctpctl_input.specs.Ports.{inner_of, has_failed, BothWork, ReportsFailed, ReportsFailedPorts, StaysFlushed};
 
@@ -13,8 +14,8 @@ use crate::ticks::Ticks;
 use crate::tries::Tries;
 use crate::turn::{framed, take_turn_seeing};
 use crate::wanted::Wanted;
-use mctp_control::Query;
-use mctp_packet::Body;
+use mctp_control::AnyQuery;
+use mctp_packet::{Body, Moment};
 use mctpctl_input::Port;
 use std::io::{Read, Write};
 
@@ -34,7 +35,7 @@ use std::io::{Read, Write};
 /// [`ask`]: crate::ask
 pub fn ask_control<C: Ticks, R: Read, W: Write>(
     line: &mut AskingLine<C>,
-    query: &Query,
+    query: &AnyQuery,
     again: u32,
     tries: u8,
     reader: &mut Port<R>,
@@ -74,7 +75,7 @@ pub fn ask_control<C: Ticks, R: Read, W: Write>(
 /// Takes a turn, and sends the frame of the query again where no answer has come in time.
 fn take_query_turn<C: Ticks, R: Read, W: Write>(
     line: &mut AskingLine<C>,
-    query: &Query,
+    query: &AnyQuery,
     wanted: &mut Wanted<'_>,
     tries: &mut Tries,
     reader: &mut Port<R>,
@@ -97,7 +98,7 @@ fn take_query_turn<C: Ticks, R: Read, W: Write>(
         Err(fault) => return Err(fault),
     }
     let now = line.requester.last_moment();
-    let goes = wanted.is_open() && tries.is_next(now);
+    let goes = is_again(wanted, tries, now);
     match send_query(query, goes, writer) {
         Ok(()) => {}
         Err(fault) => return Err(fault),
@@ -106,8 +107,15 @@ fn take_query_turn<C: Ticks, R: Read, W: Write>(
     Ok(())
 }
 
+/// Whether the frame of the query goes out again: no answer has come, and there is to be another try.
+fn is_again(wanted: &Wanted<'_>, tries: &Tries, now: Moment) -> bool
+    ensures { result ≡ is_again tries.now now wanted.now.answer }
+{
+    wanted.is_open() && tries.is_next(now)
+}
+
 /// Sends the frame of a query, where it goes out, and flushes it.
-fn send_query<W: Write>(query: &Query, goes: bool, writer: &mut Port<W>) -> Result<(), AskFault>
+fn send_query<W: Write>(query: &AnyQuery, goes: bool, writer: &mut Port<W>) -> Result<(), AskFault>
     requires { has_failed writer.old ≡ false }
     ensures bytes { OnOk result (Appends (W.contents (inner_of writer.old)) (W.contents (inner_of writer.new))
         (query_frame query.now goes)) }

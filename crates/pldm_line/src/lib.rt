@@ -21,7 +21,7 @@ mod wanted;
 
 use arrayvec::ArrayVec;
 pub use ask_fault::{AskFault, BeginFault};
-pub use asking_line::{Asked, AskingLine, Ended, ask, begin, begin_after, listen};
+pub use asking_line::{Asked, AskingLine, Ended, ask, begin, begin_after, listen, resume};
 pub use control::ask_control;
 pub use events::{Event, Unwatched, Watch};
 pub use log::Log;
@@ -31,7 +31,7 @@ pub use mctpctl_input::Port;
 pub use quiet::{END_MS, END_READS};
 pub use serve_fault::ServeFault;
 pub use served_line::{ServedLine, serve};
-pub use ticks::{ListTicks, SystemTicks, Ticks};
+pub use ticks::{LaterTicks, ListTicks, SystemTicks, Ticks};
 
 /// The most bytes of the frames of one answer.
 pub const MAX_ANSWER_BYTES: usize = MAX_PACKETS * MAX_FRAME_BYTES;

@@ -5,7 +5,7 @@ ghost use Rattle.std.specs.Io.KnownBytes.{Consumes};
 ghost use Rattle.std.specs.Time.{instant_nanos};
 ghost use Rattle.mctp_packet.specs.Ids.{IsMoment};
 ghost use Rattle.pldm_line.specs.Serving.{moment_after};
-ghost use Rattle.pldm_line.specs.Clocks.{HasNoMore, milliseconds_between, latest_of, start_of};
+ghost use Rattle.pldm_line.specs.Clocks.{HasNoMore, later_readings, milliseconds_between, latest_of, start_of};
 
 use mctp_packet::{MAX_MOMENT, Moment};
 use std::io;
@@ -50,7 +50,9 @@ impl<'c, C: Clock> SystemTicks<'c, C> {
     /// # Errors
     ///
     /// That of the clock.
-    pub fn new(clock: &'c C) -> io::Result<SystemTicks<'c, C>> {
+    pub fn new(clock: &'c C) -> io::Result<SystemTicks<'c, C>>
+        ensures { IfOk result (λ ticks. latest_of ticks ≡ start_of ticks) }
+    {
         let start = Instant::now(clock)?;
         Ok(SystemTicks {
             clock,
@@ -98,5 +100,29 @@ impl Ticks for ListTicks<'_> {
         };
         self.readings = rest;
         Ok(*first)
+    }
+}
+
+/// Readings that are so many milliseconds later than those of another clock.
+#[derive(Drop)]
+pub struct LaterTicks<T> {
+    /// The other clock.
+    pub ticks: T,
+    /// How much later.
+    pub by: u64,
+}
+
+impl<T: Ticks> Ticks for LaterTicks<T> {
+    ghost to_come = { λ ticks. later_readings ticks.by (T.to_come ticks.ticks) };
+
+    /// The next reading; the largest one where that is too large.
+    fn tick(&mut self) -> io::Result<u64>
+        ensures reading { IfOk result (λ n. Consumes (later_readings self.old.by (T.to_come self.old.ticks))
+            (later_readings self.new.by (T.to_come self.new.ticks)) (n ∷ [])) }
+        ensures none { OnErr result (HasNoMore (later_readings self.old.by (T.to_come self.old.ticks))) }
+        ensures by { self.new.by ≡ self.old.by }
+    {
+        let reading = self.ticks.tick()?;
+        Ok(reading.saturating_add(self.by))
     }
 }

@@ -1,13 +1,13 @@
 //! An answer that is wanted: packets are seen until one answers a query.
 
-use mctp_control::Query;
+use mctp_control::AnyQuery;
 use mctp_packet::Body;
 use std::marker::Model;
 
 /// The query whose answer is wanted, if one is, and the message of the first packet that answered it.
 #[derive(Drop)]
 pub(crate) struct Wanted<'q> {
-    query: Option<&'q Query>,
+    query: Option<&'q AnyQuery>,
     answer: Option<Body>,
 }
 
@@ -38,7 +38,7 @@ impl<'q> Wanted<'q> {
     }
 
     /// The answer to this query.
-    pub(crate) fn answer_to(query: &'q Query) -> Wanted<'q>
+    pub(crate) fn answer_to(query: &'q AnyQuery) -> Wanted<'q>
         ensures { result ≡ wanted_of (Some query.entry.now) None }
     {
         Wanted {

@@ -1,0 +1,2 @@
+pub mod CommaSplits
+mod WorkedFates
