@@ -356,6 +356,46 @@ uint32_t needleoat_answer_write(const struct needleoat_answer *fields, uint8_t o
  */
 uint8_t needleoat_crc8(const uint8_t *bytes, uint64_t length);
 
+/* ---- What a device says of itself ---- */
+
+/* A PLDM type that a device has. */
+struct needleoat_type_version {
+    uint8_t pldm_type;  /* 0 to 63 */
+    uint8_t version[4]; /* as on the wire, the lowest byte first: 1.1.0 is {0x00, 0xf0, 0xf1, 0xf1} */
+};
+
+/* A command that a device has. */
+struct needleoat_type_command {
+    uint8_t pldm_type;
+    uint8_t command; /* its number in that type */
+};
+
+/* Why there is no answer. 0: there is one. */
+enum needleoat_base_fault {
+    NEEDLEOAT_BASE_OTHER_COMMAND = 1 /* none of GetTID, GetPLDMVersion, GetPLDMTypes and GetPLDMCommands */
+};
+
+/*
+ * Answers GetTID, GetPLDMVersion, GetPLDMTypes and GetPLDMCommands (DSP0240), and returns 0 with the answer in `fields`:
+ * with the command's instance ID, type and number, for needleoat_answer_write or needleoat_endpoint_answer. `tid` is
+ * the terminus ID, `types` what the device has, type 0 among it, and `commands` those of all these types, in any order.
+ * A type's first entry counts. A version goes out with its checksum, in one part. The answer may be a refusal: `code` is
+ * NEEDLEOAT_CODE_INVALID_PLDM_TYPE_IN_REQUEST_DATA of a type that is not there, and of another part than the first
+ * NEEDLEOAT_CODE_INVALID_DATA_TRANSFER_HANDLE, or ..TRANSFER_OPERATION_FLAG above 1. Which version GetPLDMCommands asks
+ * about is not looked at.
+ *
+ * Of another command, SetTID among them, it returns NEEDLEOAT_BASE_OTHER_COMMAND, and leaves `fields` as it was.
+ */
+uint8_t needleoat_base_answer(uint8_t tid, const struct needleoat_type_version *types, uint64_t type_count,
+                              const struct needleoat_type_command *commands, uint64_t command_count,
+                              const struct needleoat_command *command, struct needleoat_answer *fields);
+
+/*
+ * The checksum that follows the versions of a GetPLDMVersion answer, lowest byte first: CRC-32 of IEEE 802.3.
+ * needleoat_base_answer puts it there; a device that has several versions of a type does so itself.
+ */
+uint32_t needleoat_crc32(const uint8_t *bytes, uint64_t length);
+
 /* ---- Records ----
  *
  * A BMC finds sensors and effecters by platform data records (DSP0248). Each of these calls but the last writes one
@@ -942,11 +982,19 @@ struct needleoat_requester_settings {
     uint8_t tries;       /* how often a request is sent at most, 1 to 8 */
     uint32_t keep_ms;    /* how long the device keeps an answer for copies, 1 to 60,000 */
     uint32_t timeout_ms; /* how long after it was sent a request is sent again, 1 or more */
+
+    /*
+     * How soon an instance ID is used again. With 0 in both only after twice `keep_ms`: at most 32 requests in that
+     * time. Else after twice `lifetime_ms`, once as many requests as `window` says were answered of those that were
+     * opened at least `lifetime_ms` after the request before with that instance ID.
+     */
+    uint32_t lifetime_ms; /* the line's: how late a packet of a request may arrive, 1 to `keep_ms`; 0: `keep_ms` */
+    uint32_t window;      /* the device's: for how many instance IDs it keeps answers, 1 to 32; 0: for all 32 */
 };
 
 /*
  * Makes a requester: 0, or enum needleoat_refusal: 7, else 6 where a setting is out of its range, `own` and
- * `device` are the same, or `tries` times `timeout_ms` is above `keep_ms`; else 1. Instance IDs begin at 0:
+ * `device` are the same, or `tries` times `timeout_ms` is above the lifetime; else 1. Instance IDs begin at 0:
  * after a reset of the processor let twice `keep_ms` pass before the first request. Its last moment is 0.
  */
 uint8_t needleoat_requester_new(const struct needleoat_requester_settings *settings,
@@ -1140,6 +1188,12 @@ NEEDLEOAT_AT(needleoat_answer, commands, 124);
 NEEDLEOAT_AT(needleoat_answer, update_time, 156);
 NEEDLEOAT_AT(needleoat_answer, oem_update_time, 169);
 NEEDLEOAT_AT(needleoat_answer, bytes, 182);
+NEEDLEOAT_ASSERT(sizeof(struct needleoat_type_version) == 5);
+NEEDLEOAT_AT(needleoat_type_version, pldm_type, 0);
+NEEDLEOAT_AT(needleoat_type_version, version, 1);
+NEEDLEOAT_ASSERT(sizeof(struct needleoat_type_command) == 2);
+NEEDLEOAT_AT(needleoat_type_command, pldm_type, 0);
+NEEDLEOAT_AT(needleoat_type_command, command, 1);
 NEEDLEOAT_ASSERT(sizeof(struct needleoat_entity) == 6);
 NEEDLEOAT_AT(needleoat_entity, entity_type, 0);
 NEEDLEOAT_AT(needleoat_entity, instance, 2);
@@ -1318,12 +1372,14 @@ NEEDLEOAT_AT(needleoat_step, handle, 32);
 NEEDLEOAT_ASSERT(sizeof(struct needleoat_requester) == 16);
 NEEDLEOAT_AT(needleoat_requester, at, 0);
 NEEDLEOAT_AT(needleoat_requester, is_live, 8);
-NEEDLEOAT_ASSERT(sizeof(struct needleoat_requester_settings) == 12);
+NEEDLEOAT_ASSERT(sizeof(struct needleoat_requester_settings) == 20);
 NEEDLEOAT_AT(needleoat_requester_settings, own, 0);
 NEEDLEOAT_AT(needleoat_requester_settings, device, 1);
 NEEDLEOAT_AT(needleoat_requester_settings, tries, 2);
 NEEDLEOAT_AT(needleoat_requester_settings, keep_ms, 4);
 NEEDLEOAT_AT(needleoat_requester_settings, timeout_ms, 8);
+NEEDLEOAT_AT(needleoat_requester_settings, lifetime_ms, 12);
+NEEDLEOAT_AT(needleoat_requester_settings, window, 16);
 NEEDLEOAT_ASSERT(sizeof(struct needleoat_opening) == 16);
 NEEDLEOAT_AT(needleoat_opening, refusal, 0);
 NEEDLEOAT_AT(needleoat_opening, instance_id, 1);

@@ -565,6 +565,44 @@ static void bus_frames(void) {
     read_i3c(0x80, false, "010908c801800002" "2b");
 }
 
+/* A device of two types: its terminus ID, versions, types and commands, and what it refuses. */
+static void ask_device(uint8_t number, uint8_t asked_type, uint8_t operation) {
+    static const struct needleoat_type_version types[] = {
+        {NEEDLEOAT_BASE, {0x31, 0x32, 0x33, 0x34}}, {NEEDLEOAT_PLATFORM, {0x00, 0xf2, 0xf1, 0xf1}}};
+    static const struct needleoat_type_command commands[] = {
+        {NEEDLEOAT_BASE, NEEDLEOAT_GET_TID},          {NEEDLEOAT_BASE, NEEDLEOAT_GET_PLDM_VERSION},
+        {NEEDLEOAT_BASE, NEEDLEOAT_GET_PLDM_TYPES},   {NEEDLEOAT_BASE, NEEDLEOAT_GET_PLDM_COMMANDS},
+        {NEEDLEOAT_PLATFORM, NEEDLEOAT_GET_PDR},      {NEEDLEOAT_PLATFORM, NEEDLEOAT_GET_SENSOR_READING},
+        {NEEDLEOAT_PLATFORM, 0xff}};
+    const struct needleoat_command command = {.instance_id = 5,
+                                              .command = number,
+                                              .asked_type = asked_type,
+                                              .transfer_operation_flag = operation};
+    struct needleoat_answer answer = {.code = 0x77};
+    uint8_t response[NEEDLEOAT_MESSAGE_BYTES];
+    uint8_t fault = needleoat_base_answer(7, types, 2, commands, 7, &command, &answer);
+    printf("command %u of type %u: ", number, asked_type);
+    if (fault != 0) printf("fault %u, code %02x\n", fault, answer.code);
+    else {
+        print_bytes(response, needleoat_answer_write(&answer, response));
+        printf("\n");
+    }
+}
+
+static void base_answers(void) {
+    ask_device(NEEDLEOAT_GET_TID, 0, 0);
+    ask_device(NEEDLEOAT_GET_PLDM_VERSION, 0, 1);
+    ask_device(NEEDLEOAT_GET_PLDM_VERSION, 2, 1);
+    ask_device(NEEDLEOAT_GET_PLDM_VERSION, 4, 1);
+    ask_device(NEEDLEOAT_GET_PLDM_VERSION, 0, 0);
+    ask_device(NEEDLEOAT_GET_PLDM_VERSION, 0, 2);
+    ask_device(NEEDLEOAT_GET_PLDM_TYPES, 0, 0);
+    ask_device(NEEDLEOAT_GET_PLDM_COMMANDS, 0, 0);
+    ask_device(NEEDLEOAT_GET_PLDM_COMMANDS, 2, 0);
+    ask_device(NEEDLEOAT_GET_PLDM_COMMANDS, 4, 0);
+    ask_device(NEEDLEOAT_SET_TID, 0, 0);
+}
+
 int main(void) {
     packets();
     written_packets();
@@ -577,5 +615,7 @@ int main(void) {
     windows();
     printf("checksum %02x\n", needleoat_crc8((const uint8_t *)"123456789", 9));
     printf("checksum %02x\n", needleoat_crc8((const uint8_t *)"", 0));
+    printf("checksum %08" PRIx32 "\n", needleoat_crc32((const uint8_t *)"123456789", 9));
+    base_answers();
     return 0;
 }

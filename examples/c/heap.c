@@ -1,5 +1,6 @@
 /*
- * The memory of the library over malloc. Two threads may call at once.
+ * The memory of the library over malloc. Two threads may call at once. It prints nothing: where malloc gives no block,
+ * the call of the library that wanted it says so (NEEDLEOAT_NO_MEMORY).
  */
 #include "needleoat.h"
 #include <stddef.h>

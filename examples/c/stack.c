@@ -66,6 +66,14 @@ static void packet_read(void) { needleoat_packet_read(8, packet, packet_length);
 static void request_read(void) { needleoat_request_read(request, request_length); }
 static void response_read(void) { needleoat_response_read(response, response_length); }
 static void checksum(void) { needleoat_crc8(response, response_length); }
+static void version_checksum(void) { needleoat_crc32(response, 4); }
+static void base_answer(void) {
+    static const struct needleoat_type_version types[] = {{NEEDLEOAT_PLATFORM, {0x00, 0xf2, 0xf1, 0xf1}}};
+    static const struct needleoat_type_command has[] = {{NEEDLEOAT_PLATFORM, NEEDLEOAT_GET_PDR}};
+    static const struct needleoat_command ask = {.command = NEEDLEOAT_GET_PLDM_COMMANDS, .asked_type = 2};
+    static struct needleoat_answer commands;
+    needleoat_base_answer(1, types, 1, has, 1, &ask, &commands);
+}
 
 /* The longest frames. */
 enum { LONGEST_PACKET = 254 };
@@ -193,6 +201,7 @@ static const struct {
     {"needleoat_answer_check", answer_check},   {"needleoat_packet_write", packet_write},
     {"needleoat_packet_read", packet_read},     {"needleoat_request_read", request_read},
     {"needleoat_response_read", response_read}, {"needleoat_crc8", checksum},
+    {"needleoat_crc32", version_checksum},      {"needleoat_base_answer", base_answer},
     {"needleoat_i2c_write", i2c_write},         {"needleoat_i2c_read", i2c_read},
     {"needleoat_i3c_write", i3c_write},         {"needleoat_i3c_read", i3c_read},
     {"needleoat_state_effecter_record_write", states_write},

@@ -56,7 +56,8 @@ struct Asker<'a> {
 }
 
 fn make(requester: &mut Requester, own: u8) -> u8 {
-    let settings = RequesterSettings { own, device: 9, tries: 3, keep_ms: 1000, timeout_ms: 200 };
+    let settings =
+        RequesterSettings { own, device: 9, tries: 3, keep_ms: 1000, timeout_ms: 200, ..RequesterSettings::ZERO };
     number(with_memory(|| requester.make(&settings)))
 }
 

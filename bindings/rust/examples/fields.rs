@@ -8,10 +8,10 @@ use needleoat::bounds::{
     I2C_FRAME_BYTES, I3C_FRAME_BYTES, MESSAGE_BYTES, PACKETS, PACKET_BYTES, PART_BYTES, REQUEST_BYTES,
 };
 use needleoat::{
-    answer_check, answer_read, answer_write, busy, command, command_read, command_write, crc8, data_size, i2c_read,
-    i2c_write, i3c_read, i3c_write, packet_count, packet_read, packet_write, request_read, response_read, Answer,
-    Answered, Command, CommandHandle, EffecterState, Endpoint, EndpointSettings, Message, NotACommand, Packets, Reason,
-    Refusal, SensorState, SetState, Step,
+    answer_check, answer_read, answer_write, base_answer, busy, command, command_read, command_write, crc32, crc8,
+    data_size, i2c_read, i2c_write, i3c_read, i3c_write, packet_count, packet_read, packet_write, request_read,
+    response_read, Answer, Answered, Command, CommandHandle, EffecterState, Endpoint, EndpointSettings, Message,
+    NotACommand, Packets, Reason, Refusal, SensorState, SetState, Step, TypeCommand, TypeVersion,
 };
 
 mod shared;
@@ -696,6 +696,50 @@ fn windows(out: &mut String) -> fmt::Result {
     })
 }
 
+// ---- What a device says of itself ----
+
+const TYPES: [TypeVersion; 2] = [
+    TypeVersion { pldm_type: command::BASE, version: [0x31, 0x32, 0x33, 0x34] },
+    TypeVersion { pldm_type: command::PLATFORM, version: [0x00, 0xf2, 0xf1, 0xf1] },
+];
+const COMMANDS: [TypeCommand; 7] = [
+    TypeCommand { pldm_type: command::BASE, command: command::GET_TID },
+    TypeCommand { pldm_type: command::BASE, command: command::GET_PLDM_VERSION },
+    TypeCommand { pldm_type: command::BASE, command: command::GET_PLDM_TYPES },
+    TypeCommand { pldm_type: command::BASE, command: command::GET_PLDM_COMMANDS },
+    TypeCommand { pldm_type: command::PLATFORM, command: command::GET_PDR },
+    TypeCommand { pldm_type: command::PLATFORM, command: command::GET_SENSOR_READING },
+    TypeCommand { pldm_type: command::PLATFORM, command: 0xff },
+];
+
+fn ask_device(number: u8, asked_type: u8, operation: u8, out: &mut String) -> fmt::Result {
+    let command =
+        Command { instance_id: 5, command: number, asked_type, transfer_operation_flag: operation, ..Command::ZERO };
+    write!(out, "command {number} of type {asked_type}: ")?;
+    let mut response = [0; MESSAGE_BYTES];
+    match base_answer(7, &TYPES, &COMMANDS, &command) {
+        None => writeln!(out, "fault 1, code 77"),
+        Some(answer) => {
+            let length = answer_write(&answer, &mut response).unwrap_or(0);
+            writeln!(out, "{}", hex(&response[..length]))
+        }
+    }
+}
+
+fn base_answers(out: &mut String) -> fmt::Result {
+    ask_device(command::GET_TID, 0, 0, out)?;
+    ask_device(command::GET_PLDM_VERSION, 0, 1, out)?;
+    ask_device(command::GET_PLDM_VERSION, 2, 1, out)?;
+    ask_device(command::GET_PLDM_VERSION, 4, 1, out)?;
+    ask_device(command::GET_PLDM_VERSION, 0, 0, out)?;
+    ask_device(command::GET_PLDM_VERSION, 0, 2, out)?;
+    ask_device(command::GET_PLDM_TYPES, 0, 0, out)?;
+    ask_device(command::GET_PLDM_COMMANDS, 0, 0, out)?;
+    ask_device(command::GET_PLDM_COMMANDS, 2, 0, out)?;
+    ask_device(command::GET_PLDM_COMMANDS, 4, 0, out)?;
+    ask_device(command::SET_TID, 0, 0, out)
+}
+
 /// Writes what the example in C writes.
 pub fn run(_input: &str, out: &mut String) -> fmt::Result {
     packets(out)?;
@@ -708,7 +752,9 @@ pub fn run(_input: &str, out: &mut String) -> fmt::Result {
     Steps { endpoint: Endpoint::none(), packets: Packets::new(), out }.all()?;
     windows(out)?;
     writeln!(out, "checksum {:02x}", crc8(b"123456789"))?;
-    writeln!(out, "checksum {:02x}", crc8(b""))
+    writeln!(out, "checksum {:02x}", crc8(b""))?;
+    writeln!(out, "checksum {:08x}", crc32(b"123456789"))?;
+    base_answers(out)
 }
 
 #[allow(dead_code)]

@@ -1,6 +1,6 @@
 //! Packets, messages, commands and answers, read and written.
 
-use crate::fields::{Answer, Command};
+use crate::fields::{Answer, Command, TypeCommand, TypeVersion};
 use crate::numbers::bounds::{MESSAGE_BYTES, PACKET_BYTES, REQUEST_BYTES};
 use crate::numbers::{AnswerFault, Reason};
 use crate::raw::{self, given, written};
@@ -213,4 +213,31 @@ pub fn crc8(bytes: &[u8]) -> u8 {
     let (place, length) = given(bytes);
     // SAFETY: `place` has `length` bytes that may be read, and one at least.
     unsafe { raw::needleoat_crc8(place, length) }
+}
+
+/// Answers GetTID, GetPLDMVersion, GetPLDMTypes and GetPLDMCommands (DSP0240) of a device with this terminus ID; `None`
+/// of another command, SetTID among them.
+///
+/// `types` is what the device has, type 0 among it, and `commands` those of all these types, in any order. A type's
+/// first entry counts. A version goes out with its checksum, in one part. The answer may be a refusal, as of a type that
+/// is not there. Which version GetPLDMCommands asks about is not looked at.
+pub fn base_answer(tid: u8, types: &[TypeVersion], commands: &[TypeCommand], command: &Command) -> Option<Answer> {
+    let mut answer = Answer::ZERO;
+    let (type_count, command_count) = (types.len() as u64, commands.len() as u64);
+    const NO_TYPE: &TypeVersion = &TypeVersion { pldm_type: 0, version: [0; 4] };
+    const NO_COMMAND: &TypeCommand = &TypeCommand { pldm_type: 0, command: 0 };
+    let first_type = if types.is_empty() { NO_TYPE } else { types.as_ptr() };
+    let first_command = if commands.is_empty() { NO_COMMAND } else { commands.as_ptr() };
+    // SAFETY: each place has as many entries as its count, and one at least; `answer` is borrowed alone.
+    let fault = unsafe {
+        raw::needleoat_base_answer(tid, first_type, type_count, first_command, command_count, command, &mut answer)
+    };
+    (fault == 0).then_some(answer)
+}
+
+/// The checksum that follows the versions of a GetPLDMVersion answer (DSP0240), lowest byte first: CRC-32 of IEEE 802.3.
+pub fn crc32(bytes: &[u8]) -> u32 {
+    let (place, length) = given(bytes);
+    // SAFETY: `place` has `length` bytes that may be read, and one at least.
+    unsafe { raw::needleoat_crc32(place, length) }
 }

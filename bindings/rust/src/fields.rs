@@ -23,6 +23,26 @@ impl Default for SetState {
     }
 }
 
+/// A PLDM type that a device has (DSP0240, "GetPLDMVersion command").
+#[repr(C)]
+#[derive(Clone, Copy, Debug, PartialEq, Eq, Hash)]
+pub struct TypeVersion {
+    /// The type, 0 to 63.
+    pub pldm_type: u8,
+    /// Its version as on the wire, the lowest byte first: 1.1.0 is `[0x00, 0xf0, 0xf1, 0xf1]`.
+    pub version: [u8; 4],
+}
+
+/// A command that a device has (DSP0240, "GetPLDMCommands command").
+#[repr(C)]
+#[derive(Clone, Copy, Debug, PartialEq, Eq, Hash)]
+pub struct TypeCommand {
+    /// Its PLDM type, 0 to 63.
+    pub pldm_type: u8,
+    /// Its number in that type.
+    pub command: u8,
+}
+
 /// A request's instance ID and its command (DSP0240, DSP0248). Beside each field stand the commands that have it.
 /// Those that a command does not have mean nothing after reading, and are not looked at in writing.
 #[repr(C)]
@@ -389,11 +409,17 @@ pub struct RequesterSettings {
     pub keep_ms: u32,
     /// How long after it was sent a request is sent again, 1 millisecond or more.
     pub timeout_ms: u32,
+    /// The line's lifetime: how late a packet of a request may arrive, 1 to `keep_ms` milliseconds; 0 stands for
+    /// `keep_ms`. With a shorter one an instance ID is used again after twice that time, once as many requests as
+    /// `window` says were answered of those that were opened at least that time after the request before with it.
+    pub lifetime_ms: u32,
+    /// The device's window: for how many instance IDs it keeps answers, 1 to 32; 0 stands for all 32.
+    pub window: u32,
 }
 
 impl RequesterSettings {
     /// Each field 0.
-    pub const ZERO: Self = Self { own: 0, device: 0, tries: 0, keep_ms: 0, timeout_ms: 0 };
+    pub const ZERO: Self = Self { own: 0, device: 0, tries: 0, keep_ms: 0, timeout_ms: 0, lifetime_ms: 0, window: 0 };
 }
 
 impl Default for RequesterSettings {

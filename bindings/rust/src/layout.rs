@@ -48,6 +48,12 @@ layout! {
         largest_record_size 32, value 40, pending_value 48, length 56, sensor_states 60, effecter_states 92,
         types 116, commands 124, update_time 156, oem_update_time 169, bytes 182,
     }
+    TypeVersion 5 {
+        pldm_type 0, version 1,
+    }
+    TypeCommand 2 {
+        pldm_type 0, command 1,
+    }
     Entity 6 {
         entity_type 0, instance 2, container_id 4,
     }
@@ -122,8 +128,8 @@ layout! {
     Step 48 {
         kind 0, reason 1, fresh 2, changed 3, count 4, lengths 8, handle 32,
     }
-    RequesterSettings 12 {
-        own 0, device 1, tries 2, keep_ms 4, timeout_ms 8,
+    RequesterSettings 20 {
+        own 0, device 1, tries 2, keep_ms 4, timeout_ms 8, lifetime_ms 12, window 16,
     }
     Opening 16 {
         refusal 0, instance_id 1, tag 2, number 8,

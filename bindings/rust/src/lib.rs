@@ -38,12 +38,13 @@ mod records;
 mod requester;
 
 pub use codecs::{
-    answer_check, answer_read, answer_write, command_read, command_write, crc8, packet_count, packet_read,
-    packet_write, request_read, response_read, Message, NotACommand, Packet,
+    answer_check, answer_read, answer_write, base_answer, command_read, command_write, crc32, crc8, packet_count,
+    packet_read, packet_write, request_read, response_read, Message, NotACommand, Packet,
 };
 pub use endpoint::{Answered, Endpoint, Packets, Step};
 pub use fields::{
     Answer, Command, CommandHandle, EffecterState, EndpointSettings, Request, RequesterSettings, SensorState, SetState,
+    TypeCommand, TypeVersion,
 };
 pub use frames::{i2c_read, i2c_write, i3c_read, i3c_write, I2cFrame};
 pub use moment::{Clock, Moment};

@@ -1,6 +1,8 @@
 //! The calls of `needleoat.h` as they are there. The other files keep what the header asks of their pointers.
 
-use crate::fields::{Answer, Command, CommandHandle, EndpointSettings, Request, RequesterSettings};
+use crate::fields::{
+    Answer, Command, CommandHandle, EndpointSettings, Request, RequesterSettings, TypeCommand, TypeVersion,
+};
 use crate::numbers::bounds::{PACKETS, PACKET_BYTES};
 use crate::record_fields::{
     EffecterName, EntityName, NumericEffecter, NumericSensor, SensorName, StateEffecter, StateSensor, TerminusLocator,
@@ -158,6 +160,16 @@ extern "C" {
     ) -> u8;
     pub fn needleoat_answer_write(fields: *const Answer, out: *mut u8) -> u32;
     pub fn needleoat_crc8(bytes: *const u8, length: u64) -> u8;
+    pub fn needleoat_base_answer(
+        tid: u8,
+        types: *const TypeVersion,
+        type_count: u64,
+        commands: *const TypeCommand,
+        command_count: u64,
+        command: *const Command,
+        fields: *mut Answer,
+    ) -> u8;
+    pub fn needleoat_crc32(bytes: *const u8, length: u64) -> u32;
 
     pub fn needleoat_terminus_locator_record_write(fields: *const TerminusLocator, out: *mut u8, room: u64) -> u32;
     pub fn needleoat_numeric_sensor_record_write(fields: *const NumericSensor, out: *mut u8, room: u64) -> u32;

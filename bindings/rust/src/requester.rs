@@ -105,7 +105,7 @@ impl Requester {
     ///
     /// # Errors
     /// [`Refusal::AlreadyThere`], else [`Refusal::OutOfRange`] where a setting is out of its range, `own` and `device`
-    /// are the same, or `tries` times `timeout_ms` is above `keep_ms`; else [`Refusal::NoMemory`].
+    /// are the same, or `tries` times `timeout_ms` is above the lifetime; else [`Refusal::NoMemory`].
     pub fn make(&mut self, settings: &RequesterSettings) -> Result<(), Refusal> {
         // SAFETY: the settings may be read, and the handle is this one's alone; it began as none and was left by a
         // call.

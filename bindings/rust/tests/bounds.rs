@@ -2,8 +2,9 @@
 
 use needleoat::bounds::{NAME_UNITS, RECORD_BYTES};
 use needleoat::{
-    answer_check, command_read, crc8, i2c_read, i3c_read, packet_read, records_answer, request_read, response_read,
-    AnswerFault, Command, EntityName, I2cFault, I3cFault, NotACommand, Reason, Record, RecordsFault, TerminusLocator,
+    answer_check, base_answer, command, command_read, crc32, crc8, i2c_read, i3c_read, packet_read, records_answer,
+    request_read, response_read, AnswerFault, Command, EntityName, I2cFault, I3cFault, NotACommand, Reason, Record,
+    RecordsFault, TerminusLocator,
 };
 
 #[test]
@@ -16,6 +17,10 @@ fn no_bytes_are_read_as_none() {
     assert_eq!(i2c_read(0x1d, &[]), Err(I2cFault::Short));
     assert_eq!(i3c_read(0x30, false, &[]), Err(I3cFault::Short));
     assert_eq!(crc8(&[]), 0);
+    assert_eq!(crc32(&[]), 0);
+    let types = base_answer(1, &[], &[], &Command { command: command::GET_PLDM_TYPES, ..Command::ZERO });
+    assert_eq!(types.map(|answer| (answer.code, answer.types)), Some((0, [0; 8])));
+    assert_eq!(base_answer(1, &[], &[], &Command::ZERO), None);
     let asked = records_answer(&[], &[0; 13], &[0; 13], &Command::ZERO);
     assert_eq!(asked, Err(RecordsFault::OtherCommand));
 }

@@ -31,6 +31,8 @@ fn with_a_safe_call() -> BTreeSet<&'static str> {
         needleoat_answer_check => needleoat::answer_check;
         needleoat_answer_write => needleoat::answer_write;
         needleoat_crc8 => needleoat::crc8;
+        needleoat_base_answer => needleoat::base_answer;
+        needleoat_crc32 => needleoat::crc32;
         needleoat_terminus_locator_record_write => <needleoat::TerminusLocator as Record>::record_write;
         needleoat_numeric_sensor_record_write => <needleoat::NumericSensor as Record>::record_write;
         needleoat_numeric_effecter_record_write => <needleoat::NumericEffecter as Record>::record_write;
@@ -91,7 +93,7 @@ fn in_source(source: &'static str) -> BTreeSet<&'static str> {
 fn each_function_is_declared_and_called() {
     let code = code();
     let functions = functions(&code);
-    assert_eq!(functions.len(), 43, "the test reads the header: 40 calls and three of memory");
+    assert_eq!(functions.len(), 45, "the test reads the header: 42 calls and three of memory");
     let (memory, calls): (BTreeSet<&str>, BTreeSet<&str>) =
         functions.iter().partition(|name| name.starts_with("rattle_"));
     assert_eq!(calls, with_a_safe_call());

@@ -3,7 +3,8 @@
 use needleoat::{Clock, Endpoint, EndpointSettings, Moment, Packets, Refusal, Requester, RequesterSettings, Step};
 
 const ENDPOINT: EndpointSettings = EndpointSettings { own: 9, keep_ms: 1000, ..EndpointSettings::ZERO };
-const REQUESTER: RequesterSettings = RequesterSettings { own: 8, device: 9, tries: 3, keep_ms: 1000, timeout_ms: 200 };
+const REQUESTER: RequesterSettings =
+    RequesterSettings { own: 8, device: 9, tries: 3, keep_ms: 1000, timeout_ms: 200, ..RequesterSettings::ZERO };
 
 fn at(ms: u64) -> Moment {
     Moment::from_ms(ms).expect("a moment")

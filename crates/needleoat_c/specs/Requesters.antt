@@ -1,5 +1,5 @@
 -- The calls of a requester behind a handle: what they report to C, and what the handle holds then.
-use Rattle.std.specs.Prelude.{◌≡◌, ℕ, ◌<◌, ◌==◌, nat_le, ◌&&◌, Bool, true, false, MatchBool, List, length, take, slice_get}
+use Rattle.std.specs.Prelude.{◌≡◌, ℕ, ◌<◌, ◌≤◌, ◌==◌, nat_le, ◌&&◌, Bool, true, false, MatchBool, List, length, take, slice_get}
 use Rattle.std.specs.Prelude.{Option, Some, None, IsSome, option_map, option_and_then, Result, Ok, Err, ◌⊎◌, if◌then◌else◌}
 use Rattle.mctp_packet.specs.Ids.{IsEid, IsKeep}
 use Rattle.mctp_packet.specs.Reasons.{number_of}
@@ -7,13 +7,14 @@ use Rattle.mctp_packet.specs.declared.TheConstants.{MAX_MOMENT, MAX_MESSAGE_BYTE
 use Rattle.mctp_packet.specs.declared.reason.Reason.{Reason}
 use Rattle.pldm_wire.specs.CommandReading.{command_of}
 use Rattle.pldm_wire.specs.Requests.{Request, request_of}
+use Rattle.pldm_wire.specs.declared.assigned.TheConstants.{INSTANCE_IDS}
 use Rattle.pldm_wire.specs.declared.command.Command.{Command}
 use Rattle.pldm_requester.specs.Courses.{Progress, Waiting, Answered, GaveUp}
 use Rattle.pldm_requester.specs.Deadlines.{IsDeadline}
 use Rattle.pldm_requester.specs.Slots.{held_of}
-use Rattle.pldm_requester.specs.Steps.{RequesterState, IsHeld, Memo, again_at, given_up_at, got_at, held_at_first, opened_held, opening_answer}
+use Rattle.pldm_requester.specs.Steps.{RequesterState, IsHeld, Memo, again_at, given_up_at, got_at, opened_held, opening_answer, paced_at_first}
 use Rattle.pldm_requester.specs.Steps.{received_held, ticked_held}
-use Rattle.pldm_requester.specs.Timings.{timing_fault}
+use Rattle.pldm_requester.specs.Pacing.{setting_fault}
 use Rattle.pldm_requester.specs.declared.results.Got.{Got}
 use Rattle.pldm_requester.specs.declared.results.Got.TheVariants as outcome
 use Rattle.pldm_requester.specs.declared.results.Opened.{Opened}
@@ -22,6 +23,7 @@ use Rattle.pldm_requester.specs.declared.results.OpenFault.TheVariants as cause
 use Rattle.pldm_requester.specs.declared.timing.Timing.{Timing}
 use Rattle.needleoat_forms.specs.Written.{IsWritten}
 use Rattle.needleoat_c.specs.RequesterHandles.{Inside}
+use Rattle.needleoat_c.specs.Settings.{pace_in}
 use Rattle.needleoat_c.specs.declared.kinds.TheConstants.{RECEIVING_ANSWERED, RECEIVING_DROPPED, RECEIVING_PARTIAL}
 use Rattle.needleoat_c.specs.declared.kinds.TheConstants.{RECEIVING_REFUSED, STATUS_ANSWERED, STATUS_GAVE_UP, STATUS_OPEN}
 use Rattle.needleoat_c.specs.declared.kinds.TheConstants.{STATUS_UNKNOWN}
@@ -70,9 +72,11 @@ refusal_at now (Some held) = if is_next now held then 0 else BAD_MOMENT
 abbrev pub timing_of : RequesterSettings → Timing
 timing_of s = record { keep = s.keep_ms; timeout = s.timeout_ms; tries = s.tries }
 
--- two endpoint IDs, a keeping time, and a timing without a fault
+-- two endpoint IDs, a keeping time, a window of no more than all instance IDs, and a timing and a pace without a fault
 abbrev pub IsSetup : RequesterSettings → Type 0
-IsSetup s = IsEid s.own × IsEid s.device × IsKeep s.keep_ms × (timing_fault s.own s.device (timing_of s) ≡ None)
+IsSetup s =
+    IsEid s.own × IsEid s.device × IsKeep s.keep_ms × (s.window ≤ INSTANCE_IDS)
+    × (setting_fault s.own s.device (timing_of s) (pace_in s) ≡ None)
 
 -- 0, or why none is made: one is there; the settings are none; or no memory was left
 pub record ReportsMaking (s : RequesterSettings) (is_live : Bool) (result : ℕ) : Type 0 where
@@ -83,7 +87,7 @@ pub record ReportsMaking (s : RequesterSettings) (is_live : Bool) (result : ℕ)
 -- a new requester is behind the handle
 abbrev pub IsNew : RequesterSettings → Option Inside → Type 0
 IsNew s None = ⊥
-IsNew s (Some new) = IsHeld (held_of new) (held_at_first s.own s.device (timing_of s))
+IsNew s (Some new) = IsHeld (held_of new) (paced_at_first s.own s.device (timing_of s) (pace_in s))
 
 -- ---- opening ----
 

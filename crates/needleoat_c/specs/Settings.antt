@@ -1,5 +1,5 @@
 -- The settings with which C makes an endpoint.
-use Rattle.std.specs.Prelude.{◌≡◌, ℕ, ◌≤◌, ◌==◌, true, MatchBool, [], Option, Some, None, ◌⊎◌, if◌then◌else◌}
+use Rattle.std.specs.Prelude.{◌≡◌, ℕ, ◌≤◌, ◌==◌, true, false, MatchBool, [], Option, Some, None, ◌⊎◌, if◌then◌else◌}
 use Rattle.mctp_control.specs.declared.control_responder.ControlResponder.{ControlResponder}
 use Rattle.mctp_packet.specs.Ids.{IsEid, IsKeep}
 use Rattle.mctp_packet.specs.declared.TheConstants.{NULL_EID}
@@ -8,9 +8,11 @@ use Rattle.pldm_wire.specs.declared.assigned.TheConstants.{INSTANCE_IDS}
 use Rattle.pldm_wire.specs.declared.restart_policy.RestartPolicy.{RestartPolicy}
 use Rattle.pldm_wire.specs.declared.restart_policy.RestartPolicy.TheVariants.{All, Sets}
 use Rattle.pldm_wire.specs.declared.pass_through.PassThrough.{PassThrough}
+use Rattle.pldm_requester.specs.declared.pace.Pace.{Pace}
 use Rattle.pldm_responder.specs.declared.responder_settings.ResponderSettings.{ResponderSettings}
 use Rattle.needleoat_c.specs.declared.kinds.TheConstants.{BUSY_ALL, BUSY_SETS}
 use Rattle.needleoat_c.specs.declared.settings.EndpointSettings.{EndpointSettings}
+use Rattle.needleoat_c.specs.declared.settings.RequesterSettings.{RequesterSettings}
 
 -- the two kinds of busy time
 abbrev pub IsBusyKind : ℕ → Type 0
@@ -58,6 +60,15 @@ control_in s = if s.answers_control then Some (responder_in s) else None
 -- a window of 0 stands for all instance IDs
 abbrev pub window_in : ℕ → ℕ
 window_in window = if window == 0 then INSTANCE_IDS else window
+
+-- a lifetime of 0 stands for the keeping time
+abbrev pub lifetime_in : (lifetime keep : ℕ) → ℕ
+lifetime_in lifetime keep = if lifetime == 0 then keep else lifetime
+
+-- the pace of a requester
+abbrev pub pace_in : RequesterSettings → Pace
+pace_in s =
+    record { lifetime = lifetime_in s.lifetime_ms s.keep_ms; window = window_in s.window; spread = false }
 
 abbrev pub busy_in : ℕ → RestartPolicy
 busy_in busy = if busy == BUSY_SETS then Sets none_handed_on else All

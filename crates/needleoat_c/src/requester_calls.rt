@@ -30,10 +30,11 @@ pub extern "C" fn needleoat_requester_new(
     if requester.is_live {
         return ALREADY_THERE;
     }
-    let (Some(own), Some(device), Some(keep)) = (
+    let (Some(own), Some(device), Some(keep), Some(pace)) = (
         Eid::new(settings.own),
         Eid::new(settings.device),
         Keep::new(settings.keep_ms),
+        settings.pace(),
     ) else {
         return OUT_OF_RANGE;
     };
@@ -42,7 +43,7 @@ pub extern "C" fn needleoat_requester_new(
         timeout: settings.timeout_ms,
         tries: settings.tries,
     };
-    let Ok(made) = Requester::new(alloc, own, device, timing) else {
+    let Ok(made) = Requester::with_pace(alloc, own, device, timing, pace) else {
         return OUT_OF_RANGE;
     };
     match Box::new(alloc, made) {

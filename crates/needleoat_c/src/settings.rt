@@ -2,11 +2,12 @@
 
 ghost use Rattle.std.specs.Prelude.{◌≡◌, ◌≤◌, ◌↔◌, IsSome, IfSome, true};
 ghost use Rattle.pldm_wire.specs.declared.assigned.TheConstants.{INSTANCE_IDS};
-ghost use Rattle.needleoat_c.specs.Settings.{IsBusyKind, IsKeeping, IsOwnEid, IsSetup, busy_in, control_in, first_eid, handed_in, keeping_in, static_eid, window_in};
+ghost use Rattle.needleoat_c.specs.Settings.{IsBusyKind, IsKeeping, IsOwnEid, IsSetup, busy_in, control_in, first_eid, handed_in, keeping_in, pace_in, static_eid, window_in};
 
 use crate::kinds::{BUSY_ALL, BUSY_SETS};
 use mctp_control::{ControlResponder, KeptAssignments, UUID_BYTES, VERSION_BYTES};
 use mctp_packet::{Eid, Keep, NULL_EID};
+use pldm_requester::Pace;
 use pldm_responder::ResponderSettings;
 use pldm_wire::{INSTANCE_IDS, PassThrough, RestartPolicy, Window};
 
@@ -185,7 +186,32 @@ pub struct RequesterSettings {
     pub keep_ms: u32,
     /// How long after it was sent a request is sent again, in milliseconds.
     pub timeout_ms: u32,
+    /// The line's lifetime: how long after its opening a packet of a request may still arrive, in milliseconds, 1 to
+    /// `keep_ms`; 0 stands for `keep_ms`.
+    pub lifetime_ms: u32,
+    /// For how many instance IDs of this requester the device keeps answers, 1 to 32; 0 stands for all 32.
+    pub window: u32,
 }
 
 // As in `include/needleoat.h`.
-const _: () = prove!(size_of::<RequesterSettings>() == 12);
+const _: () = prove!(size_of::<RequesterSettings>() == 20);
+
+impl RequesterSettings {
+    /// Its pace, where its window is in range: requests are not spread.
+    pub(crate) fn pace(&self) -> Option<Pace>
+        ensures some { IsSome result ↔ (self.now.window ≤ INSTANCE_IDS) }
+        ensures value { IfSome result (λ pace. pace ≡ pace_in self.now) }
+    {
+        let window = window_of(self.window)?;
+        let lifetime = if self.lifetime_ms == 0 {
+            self.keep_ms
+        } else {
+            self.lifetime_ms
+        };
+        Some(Pace {
+            lifetime: u64::from(lifetime),
+            window: window.get(),
+            spread: false,
+        })
+    }
+}

@@ -3,4 +3,5 @@ pub mod RecordsFound
 pub mod RecordsSummed
 pub mod RecordsHeld
 pub mod Constants
+pub mod WorkedAnswers
 pub mod WorkedRecords

@@ -1,3 +1,4 @@
+pub mod BaseAnswers
 pub mod BusFrames
 pub mod Laws
 pub mod NameForms
