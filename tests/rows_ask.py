@@ -9,7 +9,7 @@ import subprocess
 import tempfile
 import time
 
-from rows_explain import BYTE, COMMANDS, ID, UINT8
+from rows_explain import BYTE, COMMANDS, ID, SIZES, STATE, UINT8
 from support.askers import ENDS, TIMES, Place
 from support.frames import frame, read_frames
 from support.programs import PIPES, SECONDS
@@ -72,22 +72,20 @@ def unanswered(rows, place):
 
 
 def wait_until_open(asking, terminal):
-    """Until the program has the line open for reading and for writing; a second where the system does not show it."""
+    """Until the program has the line open for reading and for writing at least; a second where the system does not show it."""
     files, end = f"/proc/{asking.pid}/fd", time.monotonic() + (SECONDS if os.path.isdir("/proc/self/fd") else 1)
     while time.monotonic() < end and asking.poll() is None:
         try:
             names = [os.readlink(os.path.join(files, file)) for file in os.listdir(files)]
         except OSError:
             names = []
-        if names.count(terminal.name) == 2:
+        if names.count(terminal.name) >= 2:
             return
         time.sleep(0.02)
 
 
 def ended(rows, place):
-    """A line that ended, by reads of nothing at once, and one that cannot be opened, read or written."""
-    ran = place.run("ask", "--line", "/dev/null", *ENDS, *TIMES, "gettid")
-    rows.check("asked: a line that ended", ran == (3, b"", b"mctpctl: the line ended\n"), repr(ran))
+    """A line that cannot be opened, and one that hangs up."""
     name = os.path.join(place.folder, "none")
     ran = place.run("ask", "--line", name, *ENDS, *TIMES, "gettid")
     want = f"mctpctl: {name}: No such file or directory (os error 2)\n".encode()
@@ -99,8 +97,8 @@ def ended(rows, place):
         os.close(terminal.ours)
         terminal.ours = None
         out, err = asking.communicate(timeout=SECONDS)
-    gone = (b"mctpctl: the line ended\n", b"mctpctl: read fault\n")  # the system reports a hangup in one of these ways
-    well = (asking.returncode, out) == (3, b"") and err in gone
+    # The system reports a hangup as an end or as a failed read.
+    well = (asking.returncode, out, err) == (3, b"", f"mctpctl: {terminal.name}: the line ended\n".encode())
     rows.check("asked: a terminal that goes away", well, repr((asking.returncode, out, err)))
 
 
@@ -109,6 +107,7 @@ def refused(rows, place):
     none = "either a COMMAND or '--file <FILE>' is needed"
     commands = place.write("commands", "gettid\n")
     meant = f"COMMAND: 'getid': expected {COMMANDS}; did you mean 'gettid'?"
+    misplaced = "COMMAND: '--hex' is an option, and options stand before the command"
     lines = (
         ("an endpoint ID that is none", ("--own", "7", "--device", "9", "gettid"), "invalid value for '--own <EID>'"),
         ("a device that is none", ("--own", "8", "--device", "255", "gettid"), "invalid value for '--device <EID>'"),
@@ -125,7 +124,16 @@ def refused(rows, place):
         ("a word that is no command", (*ENDS, "getid"), meant),
         ("a number out of range", (*ENDS, "settid", "256"), f"COMMAND: '256': expected {BYTE}"),
         ("a value out of range", (*ENDS, "setnum", "1", "uint8", "400"), f"COMMAND: '400': expected {UINT8}"),
+        ("an ID out of range", (*ENDS, "sensor", "65536"), f"COMMAND: '65536': expected {ID}"),
+        ("an ID that is no number", (*ENDS, "getnum", "fan"), f"COMMAND: 'fan': expected {ID}"),
+        ("a state out of range", (*ENDS, "setstate", "2", "1", "256"), f"COMMAND: '256': expected {STATE}"),
+        ("a ninth state", (*ENDS, "setstate", *"1123456789"), "COMMAND: '9': expected the end of the line"),
+        ("a size that is none", (*ENDS, "setnum", "1", "float", "4"), f"COMMAND: 'float': expected {SIZES}"),
+        ("a count out of range", (*ENDS, "getpdr", "0", "0", "first", "65536"), f"COMMAND: '65536': expected {ID}"),
+        ("a word too many", (*ENDS, "gettid", "1"), "COMMAND: '1': expected the end of the line"),
         ("a word that is missing", (*ENDS, "sensor"), f"COMMAND: expected {ID} at the end of the line"),
+        ("an option after the command", (*ENDS, "gettid", "--hex"), misplaced),
+        ("an option after a value", (*ENDS, "setnum", "1", "sint8", "-5", "--hex", "--keep", "9"), misplaced),
     )
     for name, words, err in lines:
         with Terminal() as terminal:
@@ -159,60 +167,6 @@ def waited(rows, place):
         out, err = asking.communicate(timeout=SECONDS)
     well = (asking.returncode, out, err, sent) == (0, TID_IS_1.encode(), b"", frame(GET_TID))
     rows.check("asked: after twice the keeping time", well and passed >= SETTLING, repr((passed, sent.hex(), out, err)))
-
-
-def first_wait(place, *words):
-    """The seconds until the first request comes, which is then answered, and how the run ended."""
-    with Terminal() as terminal:
-        words = [place.program, "ask", "--line", terminal.name, *ENDS, *TIMES, *words, "gettid"]
-        began = time.monotonic()
-        asking = subprocess.Popen(words, **PIPES)
-        terminal.read()
-        passed = time.monotonic() - began
-        terminal.write(ANSWER)
-        out, err = asking.communicate(timeout=SECONDS)
-    return passed, (asking.returncode, out, err)
-
-
-def stated(rows, place):
-    """The file of a state: a run waits only as long as answers to the one before may still come."""
-    path, ended = os.path.join(place.folder, "last"), (0, TID_IS_1.encode(), b"")
-    began = int(time.time() * 1000)
-    passed, ran = first_wait(place, "--state", path)
-    with open(path) as file:
-        kept = file.read()
-    well = kept[:-1].isdecimal() and kept.endswith("\n") and began <= int(kept) <= time.time() * 1000
-    rows.check("asked: a new state", ran == ended and passed >= SETTLING and well, repr((passed, ran, kept)))
-    time.sleep(SETTLING + 0.1)
-    passed, ran = first_wait(place, "--state", path)
-    rows.check("asked: a state of long ago", ran == ended and passed < 0.8 * SETTLING, repr((passed, ran)))
-    for name, text in (("to come", f"{int(time.time() * 1000) + 60000}\n"), ("of a run that broke off", "")):
-        passed, ran = first_wait(place, "--state", place.write("last", text))
-        rows.check(f"asked: a state {name}", ran == ended and passed >= SETTLING, repr((passed, ran)))
-    for text in ("12x\n", "1", "\n", "1\n\n", "12345678901234567\n"):
-        ran = place.run("ask", "--line", "/dev/null", *ENDS, *TIMES, "--state", place.write("last", text), "gettid")
-        with open(path) as file:
-            well = file.read() == text
-        want = (2, b"", f"mctpctl: {path}: no state of a device\n".encode())
-        rows.check(f"asked: a state of {text!r}", ran == want and well, repr(ran))
-    path = os.path.join(place.folder, "none", "last")
-    ran = place.run("ask", "--line", "/dev/null", *ENDS, *TIMES, "--state", path, "gettid")
-    want = (3, b"", f"mctpctl: {path}: No such file or directory (os error 2)\n".encode())
-    rows.check("asked: a state that cannot be kept", ran == want, repr(ran))
-
-
-def killed(rows, place):
-    """A run that is killed once its request is out leaves an empty file, and so the next one waits its whole time."""
-    path = place.write("last", "0\n")
-    with Terminal() as terminal:
-        words = [place.program, "ask", "--line", terminal.name, *ENDS, *TIMES, "--state", path, "gettid"]
-        asking = subprocess.Popen(words, **SILENT)
-        sent = terminal.read()
-        asking.kill()
-        asking.communicate(timeout=SECONDS)
-    with open(path) as file:
-        kept = file.read()
-    rows.check("asked: a state of a run that was killed", (sent, kept) == (frame(GET_TID), ""), repr((sent, kept)))
 
 
 def lost(rows, place):
@@ -296,7 +250,7 @@ def on_standard_input(rows, place):
     rows.check("asked: standard input that ended", ran == (3, b"", b"mctpctl: the line ended\n"), repr(ran))
 
 
-PARTS = (answered, filed, unanswered, ended, refused, waited, stated, killed, lost, others, late, garbage)
+PARTS = (answered, filed, unanswered, ended, refused, waited, lost, others, late, garbage)
 PARTS += (on_standard_input,)
 
 

@@ -35,6 +35,9 @@ ANSWERS = [
     ("SetTID", "0001", "", " SUCCESS"),
     ("GetTID", "0002", "01", " tid 1"),
     ("GetPLDMVersion", "0003", "00000000" "05" "00f0f0f1", " versions 00f0f0f1 next 0"),
+    # the checksums are those of zlib's crc32, and one that is not
+    ("GetPLDMVersion", "0003", "00000000" "05" "00f0f0f1fb8f864a", " versions 00f0f0f1 crc32 fb8f864a next 0"),
+    ("GetPLDMVersion", "0003", "00000000" "05" "00f0f0f1fb8f864b", " versions 00f0f0f1fb8f864b next 0"),
     ("GetPLDMTypes", "0004", "0500000000000080", " types 0 2 63"),
     ("GetPLDMCommands", "0005", "3e" + "00" * 31, " commands 1 2 3 4 5"),
     (

@@ -16,6 +16,7 @@ ON_A_LINE = {
     "ask": "Asks a device on a serial line, and prints its answers",
     "walk": "Asks a device on a serial line for all that it has, and prints a table of it",
     "watch": "Reads the sensors and effecters of a device on a serial line again and again",
+    "assign": "Gives the device at the other end of a serial line an endpoint ID",
 }
 TOP_OPTIONS = "Options:\n  -h, --help     Print help\n  -V, --version  Print version\n"
 
@@ -61,8 +62,10 @@ def whole(texts):
         yield [name, "--help"], page
         yield ["help", name], page
     options = (("--device <FILE>", "DEVICE"), ("--log <FILE>", "LOG"), ("--verbose", "VERBOSE"))
-    flags = "".join(f"      {option:<17}{texts[name]}\n" for option, name in options)
-    flags += "  -h, --help           Print help\n"
+    options += (("--faults <FAULTS>", "FAULTS"), ("--explain", "EXPLAIN"))
+    width = 2 + max(len(option) for option, _ in options)
+    flags = "".join(f"      {option:<{width}}{texts[name]}\n" for option, name in options)
+    flags += f"  -h, {'--help':<{width}}Print help\n"
     page = f"{SERVES}\n\nUsage: mctpctl serve [OPTIONS] --device <FILE>\n\nOptions:\n{flags}\n{texts['SERVE']}\n"
     yield ["serve", "--help"], page
     yield ["help", "serve"], page
@@ -81,11 +84,13 @@ LINKED = (
     ("--timeout <MS>", "TIMEOUT"),
     ("--tries <N>", "TRIES"),
     ("--state <FILE>", "STATE"),
+    ("--no-state", "NO_STATE"),
 )
 ASKED = {
     "ask": (("--hex", "HEX"), ("--file <FILE>", "COMMANDS")),
     "walk": (("--records <FILE>", "RECORDS"),),
     "watch": (("--every <MS>", "EVERY"), ("--count <N>", "COUNT"), ("--log <FILE>", "READINGS")),
+    "assign": (),
 }
 
 

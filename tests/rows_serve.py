@@ -12,11 +12,13 @@ import termios
 import time
 import tty
 
+import rows_explain
 import rows_large
 from support import programs
 from support.examples import text_of
 from support.frames import check_sequence, frame, packets_of, read_frames
 from support.programs import PIPES, SECONDS
+from support.terminals import Terminal
 
 QUESTION = bytes.fromhex("010908c801800002")
 ANSWER = bytes.fromhex("010809c0010000020001")
@@ -156,6 +158,7 @@ def terminal(rows, place):
     ours, its = pty.openpty()
     tty.setraw(its)
     served = place.start(stdin=its, stdout=its)
+    name = os.ttyname(its)
     os.close(its)
     tid = bytes.fromhex("010908c90181000104")  # 4 would end the input of a terminal that is not raw
     done = bytes.fromhex("010809c10101000100")
@@ -169,8 +172,8 @@ def terminal(rows, place):
     err = served.stderr.read()
     status = served.wait(timeout=SECONDS)
     rows.check("a raw terminal", answers == [True] * 3 and was_running, repr(answers))
-    gone = ((0, b""), (3, b"mctpctl: read fault\n"))  # the system reports a hangup as an end or as a failed read
-    rows.check("a terminal that goes away", (status, err) in gone, repr((status, err)))
+    want = (0, f"mctpctl: {name}: the line ended\n".encode())  # the system reports it as an end or as a failed read
+    rows.check("a terminal that goes away", (status, err) == want, repr((status, err)))
 
 
 def terminal_of_the_help(rows, place):
@@ -251,7 +254,7 @@ def windows(rows, place):
 
 def refusals(rows, place):
     """Command lines, descriptions and files that are refused; nothing of the line is read or written."""
-    refused = ([], ["--verbose"], ["--log", "a"], ["--device"], ["--device", "a", "b"], ["--device", "a", "--explain"])
+    refused = ([], ["--verbose"], ["--log", "a"], ["--device"], ["--device", "a", "b"], ["--device", "a", "--decode"])
     for words in refused:
         words = ["serve", *words]
         ran = programs.run([place.program, *words], stdin=subprocess.DEVNULL)
@@ -279,6 +282,29 @@ def refusals(rows, place):
     ran = place.run(frame(QUESTION), "--log", log)
     want = (3, b"", f"mctpctl: {log}: No such file or directory (os error 2)\n".encode())
     rows.check("served: a log that cannot be made", ran == want, repr(ran))
+
+
+# What is added to a good description, and its warnings. All of the file is the description.
+ODD = (
+    ("", []),
+    ("[control]\nassigned = true\n", []),
+    ("[control]\nuid = ''\n", ["line 29, column 1: 'control.uid' is no key of a description, and is ignored; did you mean 'uuid'?"]),
+    ("[records]\nremark = \'\'\'\n%%\n\'\'\'\n", ["line 29, column 1: 'records.remark' is no key of a description, and is ignored"]),
+)
+
+
+def explained(rows, place):
+    """`--explain` says of a description what it says of that of `answer`."""
+    good = rows_explain.TOP + rows_explain.ALL
+    for old, new, fault, text in rows_explain.DESCRIPTIONS:
+        ran = place.run(b"", "--explain", device=place.write("odd", good.replace(old, new, 1)))
+        want = f"mctpctl: device: {fault}\nmctpctl: {text}\n"
+        rows.check(f"served: explained {fault}: {text[:60]}", ran == (1, b"", want.encode()), repr(ran))
+    changed = [(good.replace(old, new, 1), found) for old, new, found in rows_explain.WARNINGS]
+    for text, found in (*changed, *((good + added, found) for added, found in ODD)):
+        ran = place.run(b"", "--explain", device=place.write("odd", text))
+        want = "".join(f"mctpctl: warning: {line}\n" for line in found)
+        rows.check(f"served: warned of {(found or ['nothing'])[0][:60]}", ran == (0, b"", want.encode()), repr(ran))
 
 
 def broken_line(rows, place):
@@ -479,8 +505,103 @@ def assigned(rows, place):
         rows.check(f"assigned: {value} is no truth value", ran == want, repr(ran))
 
 
+# SplitMix64 by Steele, Lea and Flood: the numbers of a seed.
+MASK = (1 << 64) - 1
+
+
+def numbers(seed):
+    """The numbers of a seed, one after another."""
+    while True:
+        seed = (seed + 0x9E3779B97F4A7C15) & MASK
+        mixed = ((seed ^ (seed >> 30)) * 0xBF58476D1CE4E5B9) & MASK
+        mixed = ((mixed ^ (mixed >> 27)) * 0x94D049BB133111EB) & MASK
+        yield mixed ^ (mixed >> 31)
+
+
+def fate(faults, frame):
+    """How often a frame comes and how many milliseconds late, as the help of `serve` and PROTOCOL.md say."""
+    seed, lose, repeat, delay = faults
+    chances = numbers((next(numbers(seed)) + frame) & MASK)
+    lost, twice, late = (next(chances) for _ in range(3))
+    return (0, 0) if lost % 100 < lose else (2 if twice % 100 < repeat else 1, late % (delay + 1))
+
+
+def faulty(faults, requests):
+    """How many answers there are to so many requests, each answered each time that it comes, and when the last of them
+    is out at the earliest, in milliseconds."""
+    answers = passed = out = 0
+    for request in range(requests):
+        copies, late = fate(faults, 2 * request)
+        out += late if copies else 0
+        for _ in range(copies):
+            repeats, late = fate(faults, 2 * answers + 1)
+            answers += 1
+            passed += repeats
+            out += late if repeats else 0
+    return passed, out
+
+
+def with_faults(rows, place):
+    """`--faults` loses, repeats and delays frames both ways, by a seed."""
+    rows.check("SplitMix64 of 1234567", next(numbers(1234567)) == 6457827717110365317)
+    asked, answered = frame(QUESTION), frame(ANSWER)
+    gets = [bytes.fromhex(f"010908c80180{byte}") for byte in ("0002",)] * 40
+    data = b"".join(map(frame, gets))
+    for name, words, want in (
+        ("no faults", "0,0,0,0", answered * 40),
+        ("all frames are lost", "7,100,0,0", b""),
+        ("all frames are repeated", "7,0,100,0", answered * 160),
+    ):
+        ran = place.run(data, "--faults", words)
+        rows.check(f"faults: {name}", ran == (0, want, b""), repr((ran[0], len(ran[1]), ran[2])))
+    for faults in ((7, 30, 0, 0), (7, 0, 30, 0), (8, 30, 30, 3), (9999999999999999, 50, 50, 0)):
+        words = ",".join(map(str, faults))
+        count, late = faulty(faults, len(gets))
+        began = time.monotonic()
+        ran = place.run(data, "--faults", words)
+        passed = 1000 * (time.monotonic() - began)
+        well = ran == (0, answered * count, b"") and 0 < count != 40 and passed >= late
+        rows.check(f"faults: {words}", well, repr((ran[0], len(ran[1]), ran[2], count, late, passed)))
+        again = place.run(b"garbage" + data, f"--faults={words}", "--verbose")
+        rows.check(f"faults: {words} once more", again == ran, repr((again[0], len(again[1]), again[2])))
+    faults, began = (7, 0, 0, 900), time.monotonic()
+    ran, passed = place.run(asked, "--faults", "7,0,0,900"), 1000 * (time.monotonic() - began)
+    late = faulty(faults, 1)[1]
+    rows.check("faults: a delay is kept", ran[1] == answered and late <= passed < late + 5000, repr((late, passed)))
+    for words, part in (
+        ("7,10,20", "four numbers are needed, with commas between"),
+        ("7,10,20,50,1", "four numbers are needed, with commas between"),
+        ("", "four numbers are needed, with commas between"),
+        ("x,10,20,50", "SEED is a number of at most 16 digits"),
+        ("12345678901234567,10,20,50", "SEED is a number of at most 16 digits"),
+        ("7,101,20,50", "LOSE is 0 to 100, in percent"),
+        ("7,10,-1,50", "REPEAT is 0 to 100, in percent"),
+        ("7,10,20,60001", "DELAY is 0 to 60000, in milliseconds"),
+        ("x,101,101,", "SEED is a number of at most 16 digits"),
+    ):
+        ran = place.run(asked, f"--faults={words}")
+        line = f"error: invalid value for '--faults <FAULTS>': {part}\n\nFor more information, try '--help'.\n"
+        rows.check(f"faults: refused {words!r}", ran == (2, b"", line.encode()), repr(ran))
+    asked_through_faults(rows, place)
+
+
+def asked_through_faults(rows, place):
+    """`ask` gets its answers over a line that loses, repeats and delays frames, since it asks again."""
+    with Terminal() as line:
+        words = [place.program, "serve", "--device", place.device, "--faults", "7,10,10,50"]
+        served = subprocess.Popen(words, stdin=line.ours, stdout=line.ours, stderr=subprocess.DEVNULL)
+        commands = place.write("commands", "gettid\n" * 12)
+        words = [place.program, "ask", "--line", line.name, "--own", "8", "--device", "9", "--keep", "1000"]
+        ran = programs.run([*words, "--timeout", "200", "--tries", "5", "--file", commands])
+        served.terminate()
+        served.wait(timeout=SECONDS)
+    lines = ran.stdout.decode().splitlines()
+    well = ran.returncode == 0 and [line.split(" ", 4)[4] for line in lines] == ["GetTID tid 1"] * 12
+    rows.check("faults: `ask` gets its answers", well, repr(ran))
+
+
 PARTS = (large, no_frames, escapes, open_pipe, terminal, terminal_of_the_help, copies, copies_in_turn, windows)
-PARTS += (refusals, broken_line, watched, control, described_control, assigned)
+PARTS += (refusals, explained, broken_line, watched, control, described_control, assigned, with_faults)
 
 
 def check(rows, program, device):

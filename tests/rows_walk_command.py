@@ -5,6 +5,7 @@ the records are those of the texts. What is printed of each answer is what `show
 `serve` writes.
 """
 import os
+import re
 import signal
 import subprocess
 import sys
@@ -14,7 +15,7 @@ import tomllib
 from support.askers import ENDS, TIMES, Place
 from support.examples import ROOT, text_of
 from support.lossy import converse
-from support.programs import run
+from support.programs import PIPES, SECONDS, run
 from support.terminals import Terminal
 
 CHANGER = os.path.join(ROOT, "tests", "changed_answers.py")
@@ -54,8 +55,24 @@ TABLES = (
 )
 FOUND = 7
 
-# What a walk asks where nothing is answered: what depends on an answer is not asked.
-ASKED_FIRST = ("GetEndpointID", "GetEndpointUUID", "GetMessageTypeSupport", "GetTID", "GetPLDMTypes")
+# What is said where the first question has no answer: nothing more is asked.
+NO_ENDPOINT = """\
+mctpctl: GetEndpointID: no answer
+mctpctl: nobody answered as endpoint 10; a device that has no endpoint ID yet gets it by 'mctpctl assign'
+"""
+
+# What the first answers of openbmc.toml's device say (DSP0240, DSP0248), with what was asked, and its two values. The
+# checksums are those of zlib's crc32.
+SAID = """\
+  response 0 GetTID tid 1
+  response 1 GetPLDMTypes types 0 2
+  response 2 GetPLDMVersion type 0 versions 00f0f0f1 crc32 fb8f864a next 0
+  response 3 GetPLDMCommands type 0 commands 01 SetTID 02 GetTID 03 GetPLDMVersion 04 GetPLDMTypes 05 GetPLDMCommands
+  response 4 GetPLDMVersion type 2 versions 00f2f1f100f3f1f1 crc32 3798c64d next 0
+  response 5 GetPLDMCommands type 2 commands 11 GetSensorReading 21 GetStateSensorReadings\
+ 31 SetNumericEffecterValue 32 GetNumericEffecterValue 39 SetStateEffecterStates 3a GetStateEffecterStates\
+ 50 GetPDRRepositoryInfo 51 GetPDR
+"""
 
 
 def columns(rows):
@@ -69,6 +86,45 @@ def parts_of(printed):
     """The answers, and the table after the blank line."""
     answers, _, table = printed.decode().partition("\n\n")
     return [line for line in answers.splitlines() if line.startswith("  response")], table
+
+
+SAID_LAST = (" GetSensorReading sensor 1 uint8 reading 40 ", " GetNumericEffecterValue effecter 1 uint8 value 10 ")
+
+
+def without_what_was_asked(line):
+    """An answer as `show --decode` writes it, which sees it alone: commands are numbers, in decimal."""
+    told = re.sub(r"^(  response \d+ \w+) (?:type|sensor|effecter|record) \d+", r"\1", line)
+    front, commands, names = told.partition(" commands ")
+    numbers = [str(int(word, 16)) for word in names.split() if re.fullmatch("[0-9a-f]{2}", word)]
+    return front + commands + " ".join(numbers)
+
+
+def asked(rows, place):
+    """Each answer says what was asked: the type, the sensor, the effecter; commands have their names."""
+    place.write("device.toml", text_of("openbmc.toml"))
+    status, out, err = place.served("walk", *ENDS, *TIMES)
+    answers, _ = parts_of(out)
+    told = "".join(f"{line}\n" for line in answers[3:9])
+    rows.check("walked: what was asked of each type", (status, err, told) == (0, b"", SAID), repr((status, err, told)))
+    last = [words in line for words, line in zip(SAID_LAST, answers[-2:])]
+    rows.check("walked: what was asked of a sensor and an effecter", last == [True, True], repr(answers[-2:]))
+
+
+def closed(rows, place):
+    """Where nobody reads what a walk prints, it ends and says nothing."""
+    place.write("device.toml", text_of("openbmc.toml"))
+    with Terminal() as terminal:
+        served = place.serve(terminal)
+        words = [place.program, "walk", "--line", terminal.name, *ENDS, *TIMES]
+        try:
+            walking = subprocess.Popen(words, **{**PIPES, "stdin": subprocess.DEVNULL})
+            walking.stdout.readline()
+            walking.stdout.close()
+            err, status = walking.stderr.read(), walking.wait(timeout=SECONDS)
+        finally:
+            served.terminate()
+            served.wait(timeout=SECONDS)
+    rows.check("walked: a closed pipe", (status, err) == (3, b""), repr((status, err)))
 
 
 def tables(rows, place):
@@ -85,7 +141,8 @@ def tables(rows, place):
         with open(log, "rb") as capture:
             shown = run([place.program, "show", "--decode"], input=capture.read()).stdout.decode()
         wanted = [line for line in shown.splitlines() if line.startswith("  response")]
-        rows.check(f"walked: {name}.toml, the answers by name", answers == wanted, repr((answers, wanted)))
+        plain = [without_what_was_asked(line) for line in answers]
+        rows.check(f"walked: {name}.toml, the answers by name", plain == wanted, repr((plain, wanted)))
 
 
 def records(rows, place):
@@ -128,7 +185,7 @@ def joined(rows, place):
     ran = (status, err, table)
     rows.check("walked: a record in two parts", ran == (0, b"", columns((*OPENBMC, *FIELDS))), repr(ran))
     at = [number for number, line in enumerate(lines) if line == "    record 4 version 1 type StateEffecter change 0"]
-    well = len(at) == 1 and " GetPDR next 0 transfer 0 End " in lines[at[0] - 1]
+    well = len(at) == 1 and " GetPDR record 4 next 0 transfer 0 End " in lines[at[0] - 1]
     rows.check("walked: its fields are below its last part", well, repr([line[:80] for line in lines]))
 
 
@@ -158,7 +215,7 @@ def two_termini(rows, place):
     answers, table = parts_of(out)
     ran = (status, err, table)
     rows.check("walked: two termini", ran == (0, b"", columns(OPENBMC)), repr(ran))
-    readings = [line for line in answers if "GetSensorReading" in line]
+    readings = [line for line in answers if " GetSensorReading sensor " in line]
     rows.check("walked: a sensor of another terminus is not read", len(readings) == 1, repr(readings))
 
 
@@ -176,10 +233,9 @@ def refused(rows, place):
     well = (status, err, table) == (0, b"", "") and "records 0 " in answers[-1]
     rows.check("walked: a device without records", well, repr((status, out, err)))
     status, out, err = place.served("walk", "--own", "8", "--device", "10", *TIMES)
-    unanswered = "".join(f"mctpctl: {name}: no answer\n" for name in ASKED_FIRST)
-    rows.check("walked: nobody", (status, out, err) == (3, b"", unanswered.encode()), repr((status, out, err)))
+    rows.check("walked: nobody", (status, out, err) == (3, b"", NO_ENDPOINT.encode()), repr((status, out, err)))
     ran = place.run("walk", "--line", "/dev/null", *ENDS, *TIMES)
-    rows.check("walked: a line that ended", ran == (3, b"", b"mctpctl: the line ended\n"), repr(ran))
+    rows.check("walked: no terminal", ran == (3, b"", b"mctpctl: /dev/null: not a terminal\n"), repr(ran))
     for words in ((), ("--own", "8"), (*ENDS, "gettid"), (*ENDS, "--hex"), (*ENDS, "--file", "x")):
         status, out, err = place.run("walk", *words)
         well = (status, out) == (2, b"") and b"Usage: mctpctl walk" in err
@@ -230,7 +286,7 @@ def lossy(rows, place):
     rows.check("walked: over a line that loses bytes", well, repr((status, out, lost)))
 
 
-PARTS = (tables, records, joined, two_termini, refused, changed, lossy)
+PARTS = (tables, asked, closed, records, joined, two_termini, refused, changed, lossy)
 
 
 def check(rows, program, device):

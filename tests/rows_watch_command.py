@@ -40,7 +40,7 @@ def watched(rows, place):
     # 32 commands are asked in a second at most, and the walk and the first period have more.
     well = all(300 <= step < 3000 for step in steps)
     rows.check("watched: as long as they are said to be", well, repr(moments))
-    want = "".join(f'{moment},{what},"{value}"\n' for moment in moments for what, _, value, _ in BOARD)
+    want = "".join(f'{moment},{what},"{name}","{value}"\n' for moment in moments for what, name, value, _ in BOARD)
     with open(log) as file:
         found = file.read()
     rows.check("watched: the readings of a log", found == want, repr(found))
@@ -106,41 +106,49 @@ def refused(rows, place):
     want = f"mctpctl: {path}: No such file or directory (os error 2)\n".encode()
     rows.check("watched: a log that cannot be made", (status, out, err) == (3, b"", want), repr((status, out, err)))
     ran = place.run("watch", "--line", "/dev/null", *ENDS, *TIMES)
-    rows.check("watched: a line that ended", ran == (3, b"", b"mctpctl: the line ended\n"), repr(ran))
+    rows.check("watched: no terminal", ran == (3, b"", b"mctpctl: /dev/null: not a terminal\n"), repr(ran))
     place.write("device.toml", text_of("openbmc.toml"))
-    status, out, err = place.served("watch", *ENDS, *TIMES, "--count", "0")
-    rows.check("watched: no period", (status, out, err) == (0, b"", b""), repr((status, out, err)))
+    ran = place.run("watch", "--line", "/dev/null", *ENDS, *TIMES, "--count", "0")
+    want = (0, b"", b"mctpctl: --count 0: no period, so nothing is asked\n")
+    rows.check("watched: no period", ran == want, repr(ran))
+    began = time.monotonic()
+    ran = place.served("watch", "--own", "8", "--device", "10", *TIMES)
+    want = (3, b"", b"mctpctl: GetTID: no answer\n")
+    rows.check("watched: nobody", ran == want and time.monotonic() - began < 4, repr(ran))
 
 
 # Three moments: a value that goes up and half down, one that is missed once, and two fields of one sensor.
 LOG = """\
-1000,sensor 1,"10 rpm"
-1000,sensor 2,"state 1 (set 260: 1, 5)"
-1000,sensor 3,"state 1 (set 0: 0, 1)"
-1000,sensor 3,"state 2 (set 0: 1, 2)"
-2000,sensor 1,"20 rpm"
-2000,sensor 2,"-"
-2000,sensor 3,"state 1 (set 0: 0, 1)"
-2000,sensor 3,"state 1 (set 0: 1, 2)"
-3000,sensor 1,"15 rpm"
-3000,sensor 2,"state 5 (set 260: 1, 5)"
-3000,sensor 3,"state 1 (set 0: 0, 1)"
-3000,sensor 3,"state 2 (set 0: 1, 2)"
+1000,sensor 1,"Fan <1>","10 rpm"
+1000,sensor 2,"-","state 1 (set 260: 1, 5)"
+1000,sensor 3,"-","state 1 (set 0: 0, 1)"
+1000,sensor 3,"-","state 2 (set 0: 1, 2)"
+2000,sensor 1,"Fan <1>","20 rpm"
+2000,sensor 2,"-","-"
+2000,sensor 3,"-","state 1 (set 0: 0, 1)"
+2000,sensor 3,"-","state 1 (set 0: 1, 2)"
+3000,sensor 1,"Fan <1>","15 rpm"
+3000,sensor 2,"-","state 5 (set 260: 1, 5)"
+3000,sensor 3,"-","state 1 (set 0: 0, 1)"
+3000,sensor 3,"-","state 2 (set 0: 1, 2)"
 """
 LINES = [
-    "240.0,90.0 640.0,30.0 1040.0,60.0",
+    "240.0,90.0 640.0,90.0 640.0,30.0 1040.0,30.0 1040.0,60.0",
     *("240.0,174.0", "1040.0,114.0"),
     "240.0,258.0 640.0,258.0 1040.0,258.0",
-    "240.0,282.0 640.0,342.0 1040.0,282.0",
+    "240.0,282.0 640.0,282.0 640.0,342.0 1040.0,342.0 1040.0,282.0",
 ]
+LABELS = ["Fan <1>", "sensor 1", "sensor 2", "sensor 3, field 0", "sensor 3, field 1"]
 
 
 def plotted(rows, place):
-    """The drawing of a log: panels of 800 by 60 pixels, 84 apart, the first at 240, 30."""
+    """The drawing of a log: panels of 800 by 60 pixels, 84 apart, the first at 240, 30. A value stays until the next."""
     plot = os.path.join(ROOT, "contrib", "plot")
     ran = run([plot, place.write("readings", LOG)])
     drawn = [it.get("points") for it in ElementTree.fromstring(ran.stdout).iter(f"{SVG}polyline")]
     rows.check("plotted: the readings of a log", (ran.returncode, drawn, ran.stderr) == (0, LINES, b""), repr(drawn))
+    texts = [it.text for it in ElementTree.fromstring(ran.stdout).iter(f"{SVG}text") if it.get("x") == "10"]
+    rows.check("plotted: the names", texts == LABELS, repr(texts))
     ran = run([plot, place.write("readings", "1000,sensor 1\n")])
     well = (ran.returncode, ran.stdout, ran.stderr) == (1, b"", b"plot: line 1: 1000,sensor 1\n")
     rows.check("plotted: a file that is no log", well, repr(ran))

@@ -1,8 +1,11 @@
 """The wrapper `mctpctl` and `install`, in a folder of their own in which the given program stands as the proved one."""
 import os
 import shutil
+import subprocess
 import tempfile
+import termios
 
+from support.askers import TIMES
 from support.examples import ROOT
 from support.frames import frame
 from support.programs import run
@@ -74,7 +77,7 @@ def serve(top):
 
 
 def ask(top):
-    """What the wrapper makes of a command on a line that ended."""
+    """What the wrapper makes of a command on what is no terminal."""
     return call([os.path.join(top, "mctpctl"), "ask", "--line", "/dev/null", "--own", "8", "--device", "9", "gettid"])
 
 
@@ -83,8 +86,29 @@ def lines(rows, top):
     ran = serve(top)
     rows.check("a serial line", (ran.returncode, ran.stdout, ran.stderr) == (0, frame(ANSWER), b""), repr(ran))
     ran = ask(top)
-    want = (3, "", "mctpctl: the line ended\n")
+    want = (3, "", "mctpctl: /dev/null: not a terminal\n")
     rows.check("a line that is asked on", (ran.returncode, ran.stdout, ran.stderr) == want, repr(ran))
+
+
+def terminals(rows, top):
+    """A terminal that is named is made raw, with reads that end, and stays so; another one is left as it is."""
+    wrapper, device = (os.path.join(top, name) for name in ("mctpctl", "examples/device.toml"))
+    for option in ("--line", "--line="):
+        ours, its = os.openpty()
+        served = subprocess.Popen([wrapper, "serve", "--device", device], stdin=ours, stdout=ours, stderr=subprocess.DEVNULL)
+        name = os.ttyname(its)
+        line = [option + name] if option.endswith("=") else [option, name]
+        words = [wrapper, "ask", *line, "--own", "8", "--device", "9", *TIMES, "gettid"]
+        before = termios.tcgetattr(its)[3] & (termios.ICANON | termios.ECHO)
+        ran = call(words)
+        served.terminate()
+        served.wait()
+        how = termios.tcgetattr(its)
+        os.close(ours)
+        os.close(its)
+        is_set = (how[3] & (termios.ICANON | termios.ECHO), how[6][termios.VMIN], how[6][termios.VTIME])
+        well = (ran.returncode, ran.stdout, ran.stderr) == (0, "  response 0 GetTID tid 1\n", "")
+        rows.check(f"{option} is made raw", well and before and is_set == (0, 0, 1), repr((ran, is_set)))
 
 
 def stamps(rows, top):
@@ -121,5 +145,5 @@ def installs(rows, top):
 def check(rows, program):
     with tempfile.TemporaryDirectory() as top:
         make(top, program)
-        for part in (files, lines, installs, stamps):
+        for part in (files, lines, terminals, installs, stamps):
             part(rows, top)

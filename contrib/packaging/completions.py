@@ -19,7 +19,8 @@ ON_A_LINE = [
     Option("--keep", "MS", "The keeping time of the device"),
     Option("--timeout", "MS", "How long a try waits for an answer"),
     Option("--tries", "N", "How often a request is sent at most"),
-    Option("--state", FILE, "Keep in this file when the device was asked last"),
+    Option("--state", FILE, "Keep in this file when requests were opened"),
+    Option("--no-state", None, "Keep nothing, and wait first"),
 ]
 EXPLAIN = Option("--explain", None, "Say more of a refused input")
 
@@ -41,6 +42,8 @@ SUBCOMMANDS = {
             Option("--device", FILE, "The description of the device"),
             Option("--log", FILE, "Write a capture to this file"),
             Option("--verbose", None, "Say what is dropped, and why"),
+            Option("--faults", "SEED,LOSE,REPEAT,DELAY", "Lose, repeat and delay frames"),
+            EXPLAIN,
         ],
     ),
     "ask": (
@@ -64,6 +67,7 @@ SUBCOMMANDS = {
             Option("--log", FILE, "Write the readings to this file"),
         ],
     ),
+    "assign": ("Give a device an endpoint ID", ON_A_LINE),
     "help": ("Print help of a subcommand", []),
 }
 TOP = [HELP, Option("--version", None, "Print the version", "V")]

@@ -7,6 +7,10 @@ from support import programs
 from support.programs import SECONDS, run
 from support.terminals import Terminal
 
+# No state is kept where a row does not say so.
+for variable in ("HOME", "XDG_STATE_HOME"):
+    os.environ.pop(variable, None)
+
 # The endpoints of the descriptions, and times for a line on which nothing is lost.
 ENDS = ("--own", "8", "--device", "9")
 TIMES = ("--keep", "500", "--timeout", "250", "--tries", "2")

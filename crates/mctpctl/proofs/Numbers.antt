@@ -1,7 +1,7 @@
 -- The numbers of the source that a definition takes, written a second time.
 use Rattle.std.proofs.Common.{◌≡◌, refl}
 use Rattle.mctpctl.specs.declared.settings.TheConstants.{EVERY_MS, KEEP_MS, MAX_COUNT, MAX_EVERY, TIMEOUT_MS, TRIES}
-use Rattle.mctpctl.specs.declared.state.TheConstants.{LINE_END, MAX_MOMENT}
+use Rattle.mctpctl.specs.declared.keeper.TheConstants.{WALK_QUERIES}
 use Rattle.mctpctl.specs.declared.statuses.TheConstants.{DONE, FAILED, REFUSED, USAGE}
 
 usual_keeping_time : KEEP_MS ≡ 6000
@@ -23,12 +23,8 @@ longest_period = refl
 most_periods : MAX_COUNT ≡ 1000000000000
 most_periods = refl
 
--- LF
-end_of_a_state : LINE_END ≡ 10
-end_of_a_state = refl
-
-last_moment_of_a_state : MAX_MOMENT ≡ 9999999999999999
-last_moment_of_a_state = refl
+control_queries_of_a_walk : WALK_QUERIES ≡ 3
+control_queries_of_a_walk = refl
 
 status_of_success : DONE ≡ 0
 status_of_success = refl

@@ -1,5 +1,6 @@
 pub mod AskedCommands
 pub mod AskedTexts
+pub mod AssignedTexts
 pub mod ControlResponders
 pub mod Conversations
 pub mod LineFaults

@@ -1,9 +1,10 @@
 -- What `walk` asks and prints.
 use Rattle.std.specs.Io.KnownBytes.{Appends}
-use Rattle.std.specs.Prelude.{◌≡◌, ◌⊎◌, ◌==◌, ℕ, zero, suc, Bool, false, List, [], ◌∷◌, ◌++◌, length, slice_get, unwrap_or, Option, None, Some}
+use Rattle.std.specs.Prelude.{◌≡◌, ◌≢◌, ◌<◌, ◌+◌, ◌⊎◌, ◌==◌, ℕ, zero, suc, Bool, false, List, [], ◌∷◌, ◌++◌, length, slice_get, unwrap_or, Option, None, Some}
 use Rattle.std.specs.Prelude.{if◌then◌else◌, max}
 use Rattle.mctp_control.specs.Messages.{Response, response_of}
-use Rattle.mctp_control.specs.Queries.{ControlQuery}
+use Rattle.mctp_control.specs.declared.any_query.AnyQuery.{AnyQuery}
+use Rattle.mctp_control.specs.declared.any_query.AnyQuery.TheVariants.{ToDevice}
 use Rattle.mctp_control.specs.declared.assigned.TheConstants.{SUCCESS}
 use Rattle.mctp_control.specs.declared.command.Command.{Command as ControlCommand}
 use Rattle.mctp_control.specs.declared.command.Command.TheVariants as controls
@@ -12,6 +13,7 @@ use Rattle.pldm_line.specs.Ends.{answer_of}
 use Rattle.pldm_line.specs.Queries.{AsksQuery}
 use Rattle.pldm_line.specs.declared.ask_fault.AskFault.{AskFault}
 use Rattle.pldm_line.specs.declared.ask_fault.AskFault.TheVariants.{TooMany}
+use Rattle.mctpctl_decode.specs.AnswersToCommands.{line_to}
 use Rattle.mctpctl_decode.specs.RecordTexts.{record_lines}
 use Rattle.mctpctl_table.specs.Rows.{Described, described_of, rows_by}
 use Rattle.mctpctl_table.specs.Tables.{Cells, table_text}
@@ -22,16 +24,16 @@ use Rattle.pldm_wire.specs.declared.limits.TheConstants.{GET_NEXT_PART}
 use Rattle.pldm_wire.specs.declared.command.Command.{Command}
 use Rattle.pldm_wire.specs.declared.command.Command.TheVariants.{GetPdr}
 use Rattle.pldm_requester.specs.declared.timing.Timing.{Timing}
-use Rattle.mctpctl.specs.AskedTexts.{Prints, Reports, status_of_answer}
+use Rattle.mctpctl.specs.AskedTexts.{Prints, Reports, message_text, status_of_answer}
 use Rattle.mctpctl.specs.Conversations.{printed_in, shown_in}
 use Rattle.mctpctl.specs.declared.conversation.Conversation.{Conversation}
 use Rattle.mctpctl.specs.declared.settings.Settings.{Settings}
 use Rattle.mctpctl.specs.declared.statuses.TheConstants.{DONE, FAILED, REFUSED}
 
 -- ---- the endpoint: control messages, on tag 0, which no request has yet
-abbrev pub query_of : Settings → ℕ → ControlCommand → ControlQuery
+abbrev pub query_of : Settings → ℕ → ControlCommand → AnyQuery
 query_of settings id command =
-    record { own = settings.own; device = settings.device; tag = 0; id = id; command = command }
+    ToDevice (record { own = settings.own; device = settings.device; tag = 0; id = id; command = command })
 
 abbrev pub status_of_response : Option Response → ℕ
 status_of_response None = REFUSED
@@ -46,28 +48,39 @@ status_for (Some message) = status_of_query message
 status_for None = FAILED
 
 -- the query went out until it was answered or had its tries, and its own answer was printed
-pub record ReportsQuery (timing : Timing) (q : ControlQuery) (status : ℕ) (s s1 : Shown) (out out1 : Option (List ℕ))
+pub record AsksAndPrints
+    (timing : Timing) (q : AnyQuery) (answer : Option (List ℕ)) (s s1 : Shown) (out out1 : Option (List ℕ))
+    : Type 0 where
+  pub asks : AsksQuery q timing.timeout timing.tries answer s s1
+  pub prints : Prints (message_text false) answer out out1
+
+-- so it did, with this exit status
+pub record ReportsQuery (timing : Timing) (q : AnyQuery) (status : ℕ) (s s1 : Shown) (out out1 : Option (List ℕ))
     : Type 0 where
   pub answer : Option (List ℕ)
-  pub asks : AsksQuery q timing.timeout timing.tries answer s s1
-  pub prints : Prints false answer out out1
+  pub asks : AsksAndPrints timing q answer s s1 out out1
   pub status_is : status ≡ status_for answer
 
--- the three queries were asked one after another, each once; this is the greatest of their exit statuses
-pub record AsksEndpoint (settings : Settings) (status : ℕ) (s s1 : Shown) (out out1 : Option (List ℕ)) : Type 0 where
-  pub first : Shown
-  pub first_out : Option (List ℕ)
-  pub second : Shown
-  pub second_out : Option (List ℕ)
-  pub eid : ℕ
-  pub asks_eid : ReportsQuery settings.timing (query_of settings 0 controls.GetEndpointId) eid s first out first_out
-  pub uuid : ℕ
-  pub asks_uuid :
-      ReportsQuery settings.timing (query_of settings 1 controls.GetEndpointUuid) uuid first second first_out second_out
-  pub types : ℕ
-  pub asks_types :
-      ReportsQuery settings.timing (query_of settings 2 controls.GetMessageTypeSupport) types second s1 second_out out1
-  pub greatest : status ≡ max (max eid uuid) types
+-- queries were asked one after another, each once, from an instance ID on, up to the first one without an answer; this
+-- is the greatest of their exit statuses
+abbrev pub AsksQueries :
+    Settings → ℕ → List ControlCommand → ℕ → Shown → Shown → Option (List ℕ) → Option (List ℕ) → Type 0
+AsksQueries settings id [] status s s1 out out1 = (s1 ≡ s) × (out1 ≡ out) × (status ≡ DONE)
+AsksQueries settings id (command ∷ commands) status s s1 out out1 =
+    (one : ℕ) × (mid : Shown) × (mid_out : Option (List ℕ))
+    × ReportsQuery settings.timing (query_of settings id command) one s mid out mid_out
+    × (((one ≡ FAILED) × (s1 ≡ mid) × (out1 ≡ mid_out) × (status ≡ FAILED))
+    ⊎ ((one ≢ FAILED) × (rest : ℕ) × AsksQueries settings (id + 1) commands rest mid s1 mid_out out1
+    × (status ≡ max one rest)))
+
+-- what a bus owner asks an endpoint that it has found
+abbrev pub endpoint_queries : List ControlCommand
+endpoint_queries = controls.GetEndpointId ∷ controls.GetEndpointUuid ∷ controls.GetMessageTypeSupport ∷ []
+
+-- from this instance ID on
+abbrev pub AsksEndpoint : Settings → ℕ → ℕ → Shown → Shown → Option (List ℕ) → Option (List ℕ) → Type 0
+AsksEndpoint settings first_id status s s1 out out1 =
+    AsksQueries settings first_id endpoint_queries status s s1 out out1
 
 -- ---- the walk
 -- how far a walk has come, on which line, and what was printed, where that is known
@@ -107,7 +120,7 @@ pub record Visits (status : ℕ) (a b : WalkView) : Type 0 where
   pub next : next_command a.walking ≡ Some command
   pub number : ℕ
   pub answered : Option (List ℕ)
-  pub reports : Reports false command number a.shown b.shown a.out answered
+  pub reports : Reports (line_to command) command number a.shown b.shown a.out answered
   pub takes : b.walking ≡ after a.walking (answer_of b.shown.asking.held number)
   pub joined : Appends answered b.out (record_text command (length a.walking.records) b.walking)
   pub status_is : status ≡ status_of_answer (answer_of b.shown.asking.held number)
@@ -117,18 +130,19 @@ abbrev pub StepsOn : Option ℕ → WalkView → WalkView → Type 0
 StepsOn None a b = (next_command a.walking ≡ None) × (b ≡ a)
 StepsOn (Some status) a b = Visits status a b
 
--- command after command was asked; so it stood before each, the newest first, and this is the greatest of
--- the exit statuses
+-- command after command was asked, each after answered ones; so it stood before each, the newest first, and this is the
+-- greatest of the exit statuses
 abbrev pub Walked : ℕ → WalkView → List WalkView → WalkView → Type 0
 Walked status a [] b = (b ≡ a) × (status ≡ DONE)
 Walked status a (mid ∷ before) b =
-    (so_far : ℕ) × (one : ℕ) × Walked so_far a before mid × Visits one mid b × (status ≡ max so_far one)
+    (so_far : ℕ) × (one : ℕ) × (so_far < FAILED) × Walked so_far a before mid × Visits one mid b
+    × (status ≡ max so_far one)
 
--- up to the walk's end
+-- up to the walk's end, or to a command without an answer
 pub record WalksThrough (status : ℕ) (a b : WalkView) : Type 0 where
   pub before : List WalkView
   pub walked : Walked status a before b
-  pub ends : next_command b.walking ≡ None
+  pub ends : (next_command b.walking ≡ None) ⊎ (status ≡ FAILED)
 
 -- the line stopped at the next command
 pub record StopsNext (fault : AskFault) (a b : WalkView) : Type 0 where
@@ -177,11 +191,11 @@ walk_text w = (if length w.found == 0 then [] else 10 ∷ []) ++ table_text (wal
 -- ---- all of it
 -- the endpoint was asked, and then what a walk asks, up to its end; then the table was printed. The exit status is the
 -- greatest, or FAILED where the records were not written to their file
-pub record WalksDevice (settings : Settings) (status : ℕ) (s s1 : Shown) (out out1 : Option (List ℕ)) : Type 0 where
+pub record WalksOn (settings : Settings) (first_id status : ℕ) (s s1 : Shown) (out out1 : Option (List ℕ)) : Type 0 where
   pub endpoint : ℕ
   pub begun : Shown
   pub begun_out : Option (List ℕ)
-  pub asks : AsksEndpoint settings endpoint s begun out begun_out
+  pub asks : AsksEndpoint settings first_id endpoint s begun out begun_out
   pub walked : ℕ
   pub first : WalkView
   pub last : WalkView
@@ -190,3 +204,9 @@ pub record WalksDevice (settings : Settings) (status : ℕ) (s s1 : Shown) (out 
   pub shown : last.shown ≡ s1
   pub prints : Appends last.out out1 (walk_text last.walking)
   pub status_is : (status ≡ max endpoint walked) ⊎ (status ≡ FAILED)
+
+-- where the endpoint did not answer, nothing more was asked or printed
+abbrev pub WalksDevice : Settings → ℕ → ℕ → Shown → Shown → Option (List ℕ) → Option (List ℕ) → Type 0
+WalksDevice settings first_id status s s1 out out1 =
+    (AsksEndpoint settings first_id FAILED s s1 out out1 × (status ≡ FAILED))
+    ⊎ WalksOn settings first_id status s s1 out out1

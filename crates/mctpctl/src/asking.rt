@@ -2,7 +2,7 @@
 
 ghost use Rattle.std.specs.Io.KnownBytes.{Appends};
 ghost use Rattle.std.specs.Prelude.{◌≡◌, ◌≢◌, ◌≤◌, ◌⊎◌, ◌++◌, [], IfOk, IfErr, OnOk, option_map, unwrap_or};
-ghost use Rattle.mctpctl.specs.AskedTexts.{AsksCommand, AsksEach, IsOfPrinting, Reports, StopsEach, asked_so, message_text, status_of_answer, status_of_message};
+ghost use Rattle.mctpctl.specs.AskedTexts.{AsksCommand, AsksEach, IsOfPrinting, Reports, StopsEach, asked_so, message_text, status_of_answer, status_of_message, text_in};
 ghost use Rattle.mctpctl.specs.Conversations.{IsGoingOn, printed_in, shown_in};
 ghost use Rattle.pldm_line.specs.Asked.{AskStops};
 ghost use Rattle.pldm_wire.specs.CommandNames.{name_of_kind};
@@ -14,13 +14,22 @@ use crate::conversation::Conversation;
 use crate::statuses::{DONE, FAILED, REFUSED};
 use mctp_packet::Memory;
 use mctpctl_command_line::AskOptions;
-use mctpctl_decode::push_decoded_line;
+use mctpctl_decode::{push_answer_to, push_decoded_line};
 use mctpctl_input::Port;
 use mctpctl_texts::{write_data, write_text};
 use pldm_line::{AskFault, Ticks, ask};
 use pldm_wire::{Command, SUCCESS, read_response};
 use std::alloc::Global;
-use std::io::{Read, Write};
+use std::io::{self, ErrorKind, Read, Write};
+
+/// How the answer to a command is printed.
+#[derive(Clone, Copy)]
+pub enum AnswerForm {
+    /// Its message alone: its bytes in hex, or as `show --decode` shows it.
+    Message(bool),
+    /// As `show --decode` shows it, with what was asked.
+    WithCommand,
+}
 
 /// Asks each command over a line, prints its answer, and returns the exit status.
 pub fn ask_each<C: Ticks, R: Read, W: Write, O: Write>(
@@ -71,7 +80,7 @@ fn ask_one<C: Ticks, R: Read, W: Write, O: Write>(
     ensures going { OnOk result (IsGoingOn conversation.new) }
 {
     let hex = question.hex;
-    let number = match ask_command(rt.alloc(), hex, &asked.command, conversation) {
+    let number = match ask_command(rt, AnswerForm::Message(hex), &asked.command, conversation) {
         Ok(number) => number,
         Err(fault) => return Err(fault),
     };
@@ -111,13 +120,13 @@ pub(crate) fn name_of(command: &Command) -> &'static str
 /// Asks a command and prints its own answer, where one came, and returns the number of the request, whose answer the
 /// line has.
 pub fn ask_command<C: Ticks, R: Read, W: Write, O: Write>(
-    alloc: Global,
-    hex: bool,
+    rt: &HostRuntime,
+    form: AnswerForm,
     command: &Command,
     conversation: &mut Conversation<C, R, W, O>,
 ) -> Result<u64, AskFault>
     requires going { IsGoingOn conversation.old }
-    ensures reported { IfOk result (λ number. Reports hex command.now number
+    ensures reported { IfOk result (λ number. Reports (text_in form command.now) command.now number
         (shown_in C.to_come R.remaining W.contents conversation.old)
         (shown_in C.to_come R.remaining W.contents conversation.new)
         (printed_in O.contents conversation.old) (printed_in O.contents conversation.new)) }
@@ -126,6 +135,7 @@ pub fn ask_command<C: Ticks, R: Read, W: Write, O: Write>(
         (shown_in C.to_come R.remaining W.contents conversation.new)) }
     ensures going { OnOk result (IsGoingOn conversation.new) }
 {
+    conversation.keeper.keep_next(rt, &conversation.line)?;
     let asked = match ask(
         &mut conversation.line,
         command,
@@ -138,8 +148,28 @@ pub fn ask_command<C: Ticks, R: Read, W: Write, O: Write>(
     let Some(message) = conversation.line.answer(asked.number) else {
         return Ok(asked.number);
     };
-    print_message(alloc, hex, message, &mut conversation.out)?;
+    let out = &mut conversation.out;
+    print_answer(rt.alloc(), form, command, message, out)?;
     Ok(asked.number)
+}
+
+/// Prints the answer to a command.
+fn print_answer<O: Write>(
+    alloc: Global,
+    form: AnswerForm,
+    command: &Command,
+    message: &[u8],
+    out: &mut Port<O>,
+) -> Result<(), AskFault>
+    ensures text { OnOk result (Appends (O.contents (inner_of out.old)) (O.contents (inner_of out.new))
+        (text_in form command.now message.now)) }
+    ensures fault { IfErr result IsOfPrinting }
+{
+    let mut text = Vec::new(alloc);
+    if push_answer(form, command, message, &mut text).is_err() {
+        return Err(AskFault::Memory);
+    }
+    print_text(&text, out)
 }
 
 /// Prints an answer.
@@ -163,12 +193,25 @@ pub fn print_message<O: Write>(
 /// Prints a text.
 pub fn print_text<O: Write>(text: &[u8], out: &mut Port<O>) -> Result<(), AskFault>
     ensures text { OnOk result (Appends (O.contents (inner_of out.old)) (O.contents (inner_of out.new)) text.now) }
-    ensures fault { IfErr result (λ fault. fault ≡ AskFault.Write) }
+    ensures fault { IfErr result IsOfPrinting }
 {
-    if out.write_all(text).is_err() || out.flush().is_err() {
-        return Err(AskFault::Write);
+    if let Err(error) = out.write_all(text) {
+        return Err(printing_fault(&error));
     }
-    Ok(())
+    match out.flush() {
+        Ok(()) => Ok(()),
+        Err(error) => Err(printing_fault(&error)),
+    }
+}
+
+/// The fault of a text that was not printed.
+fn printing_fault(error: &io::Error) -> AskFault
+    ensures { IsOfPrinting result }
+{
+    match error.kind() {
+        ErrorKind::BrokenPipe => AskFault::Unread,
+        _ => AskFault::Write,
+    }
 }
 
 /// The exit status of an answer, where one came.
@@ -179,6 +222,21 @@ pub fn status_of_answer(answer: Option<&[u8]>) -> u8
     match answer {
         Some(message) => status_of_message(message),
         None => FAILED,
+    }
+}
+
+/// Adds the text of the answer to a command.
+fn push_answer(
+    form: AnswerForm,
+    command: &Command,
+    message: &[u8],
+    out: &mut Vec<u8>,
+) -> Result<(), Memory>
+    ensures { OnOk result (out.new.items ≡ out.old.items ++ text_in form command.now message.now) }
+{
+    match form {
+        AnswerForm::Message(hex) => push_message(hex, message, out),
+        AnswerForm::WithCommand => push_answer_to(out, command, message),
     }
 }
 

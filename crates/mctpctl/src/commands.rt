@@ -7,7 +7,7 @@ use crate::device_file::device_text;
 use line_words::split_line;
 use mctp_packet::Memory;
 use mctpctl_command_line::AskOptions;
-use mctpctl_explain::refused_text;
+use mctpctl_explain::{misplaced_option_text, refused_text};
 use mctpctl_input::MAX_DESCRIPTION;
 use pldm_wire::Command;
 use schedule_text::{LineFaultKind, command_in};
@@ -90,7 +90,7 @@ fn command_in_words(alloc: Global, words: &[&str]) -> Result<Vec<AskedCommand>, 
     };
     let commands = match commands_in(alloc, &line) {
         Ok(commands) => commands,
-        Err(CommandsFault::Line(..)) => return Err(words_fault(alloc, &line)),
+        Err(CommandsFault::Line(..)) => return Err(words_fault(alloc, words, &line)),
         Err(fault) => return Err(fault),
     };
     if commands.is_empty() {
@@ -99,8 +99,24 @@ fn command_in_words(alloc: Global, words: &[&str]) -> Result<Vec<AskedCommand>, 
     Ok(commands)
 }
 
-/// Why a line says no command.
-fn words_fault(alloc: Global, line: &[u8]) -> CommandsFault {
+/// Whether a word is an option: a minus and no digit after it.
+fn is_option(word: &str) -> bool {
+    match word.as_bytes() {
+        [b'-', second, ..] => !second.is_ascii_digit(),
+        _ => false,
+    }
+}
+
+/// Why these words, in a line, say no command: the first option among them, else the first word that is wrong.
+fn words_fault(alloc: Global, words: &[&str], line: &[u8]) -> CommandsFault {
+    for word in words {
+        if is_option(word) {
+            return match misplaced_option_text(alloc, word.as_bytes()) {
+                Ok(text) => CommandsFault::Words(text),
+                Err(_) => CommandsFault::Memory,
+            };
+        }
+    }
     let Err(refusal) = command_in(line) else {
         return CommandsFault::None; // a comment
     };

@@ -2,6 +2,7 @@
 
 ghost use Rattle.std.specs.Prelude.{◌≡◌};
 
+use crate::keeper::Keeper;
 use mctpctl_input::Port;
 use pldm_line::AskingLine;
 
@@ -16,6 +17,8 @@ pub struct Conversation<C, R, W, O> {
     pub writer: Port<W>,
     /// Where the answers are printed.
     pub out: Port<O>,
+    /// What keeps when its requests were opened.
+    pub keeper: Keeper,
 }
 
 impl<C, R, W, O> Conversation<C, R, W, O> {
@@ -32,12 +35,14 @@ impl<C, R, W, O> Conversation<C, R, W, O> {
             reader,
             writer,
             out: before,
+            keeper,
         } = self;
         let printed = Conversation {
             line,
             reader,
             writer,
             out,
+            keeper,
         };
         (printed, before)
     }

@@ -1,4 +1,4 @@
-//! What a command line asks of a device: commands, a walk or a watch.
+//! What a command line asks of a device: commands, a walk, a watch or an endpoint ID.
 
 ghost use Rattle.std.specs.Prelude.{◌≤◌};
 
@@ -6,7 +6,9 @@ use crate::commands::{CommandsFault, read_commands};
 use crate::settings::periods_of;
 use crate::statuses::{DONE, FAILED, USAGE};
 use crate::talk::{Errand, do_errand, read_settings};
-use mctpctl_command_line::{AskOptions, NO_COMMAND, TRY_HELP, WalkOptions, WatchOptions};
+use mctpctl_command_line::{
+    AskOptions, LineOptions, NO_COMMAND, TRY_HELP, WalkOptions, WatchOptions,
+};
 
 /// Asks the device what the command line says, and returns the exit status. What fails is said on standard error.
 pub fn ask_device(rt: &HostRuntime, question: &AskOptions<'_>, words: &[&str]) -> u8
@@ -85,6 +87,10 @@ pub fn run_watch(rt: &HostRuntime, options: &WatchOptions<'_>) -> u8
         Err(status) => return status,
     };
     match periods_of(options) {
+        Ok(periods) if periods.count == 0 => {
+            let _ = eprintln!(rt; "mctpctl: --count 0: no period, so nothing is asked");
+            DONE
+        }
         Ok(periods) => do_errand(
             rt,
             &options.link,
@@ -95,5 +101,15 @@ pub fn run_watch(rt: &HostRuntime, options: &WatchOptions<'_>) -> u8
             let _ = eprint!(rt; "error: invalid value for '{option}'{TRY_HELP}");
             USAGE
         }
+    }
+}
+
+/// Gives the device its endpoint ID, and returns the exit status. What fails is said on standard error.
+pub fn run_assign(rt: &HostRuntime, link: &LineOptions<'_>) -> u8
+    ensures { result ≤ FAILED }
+{
+    match read_settings(rt, link) {
+        Ok(settings) => do_errand(rt, link, &settings, Errand::Assign),
+        Err(status) => status,
     }
 }

@@ -4,6 +4,7 @@ ghost use Rattle.std.specs.Prelude.{◌≡◌, ◌≤◌};
 ghost use Rattle.mctpctl.specs.LineFaults.{engine_fault_of};
 ghost use Rattle.mctpctl_input.specs.Statuses.{status_of_fault};
 
+use mctpctl_explain::{Subcommand, explain, warnings};
 use mctpctl_input::{EngineFault, fault_line, status_of};
 use pldm_line::ServeFault;
 use std::alloc::AllocError;
@@ -31,5 +32,20 @@ pub fn engine_fault(fault: ServeFault) -> Option<EngineFault>
         ServeFault::Clock => None,
         ServeFault::Memory => Some(AllocError.into()), // the line keeps no more of it
         ServeFault::TooMany => Some(EngineFault::TooLarge),
+    }
+}
+
+/// Explains the fault of an input on standard error, where it has one, and warns of what is ignored in the input.
+pub fn say_more(rt: &HostRuntime, subject: Subcommand, input: &[u8], fault: Option<&EngineFault>) {
+    if let Some(fault) = fault
+        && let Ok(text) = explain(rt.alloc(), subject, input, fault)
+        && !text.is_empty()
+    {
+        let _ = eprintln!(rt; "mctpctl: {text}");
+    }
+    if let Ok(found) = warnings(rt.alloc(), subject, input) {
+        for text in found.iter() {
+            let _ = eprintln!(rt; "mctpctl: warning: {text}");
+        }
     }
 }

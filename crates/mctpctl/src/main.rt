@@ -4,12 +4,15 @@
 #![tactic(auto)]
 
 mod asking;
+mod assigning;
 mod commands;
 mod control_responder;
 mod conversation;
 mod device_file;
 mod errands;
 mod faults;
+mod keeper;
+mod line;
 mod serial_line;
 mod settings;
 mod state;
@@ -21,14 +24,15 @@ mod watching;
 ghost use Rattle.std.specs.Prelude.{◌≡◌, false};
 ghost use Rattle.mctpctl_input.specs.Ports.{has_failed, BothWork};
 
-use crate::errands::{ask_device, run_walk, run_watch};
-use crate::faults::print_fault;
+use crate::errands::{ask_device, run_assign, run_walk, run_watch};
+use crate::faults::{print_fault, say_more};
 use crate::serial_line::serve_device;
 use crate::statuses::{DONE, FAILED, USAGE};
+use mctpctl_colours::{Colouring, Marks, is_asked};
 use mctpctl_command_line::{Choice, ChooseFault, Task, TextTask, choose};
 use mctpctl_decode::decode_all;
 use mctpctl_engines::{answer_all, run_all, show_all};
-use mctpctl_explain::{Subcommand, explain, warnings};
+use mctpctl_explain::Subcommand;
 use mctpctl_input::{EngineFault, Port, TeeReader};
 use std::alloc::{AllocError, Global};
 use std::env;
@@ -69,6 +73,7 @@ fn perform(rt: &HostRuntime) -> Result<u8, ChooseFault> {
         Ok(Choice::Ask(question)) => Ok(ask_device(rt, &question, &words)),
         Ok(Choice::Walk(options)) => Ok(run_walk(rt, &options)),
         Ok(Choice::Watch(options)) => Ok(run_watch(rt, &options)),
+        Ok(Choice::Assign(link)) => Ok(run_assign(rt, &link)),
         Err(fault) => Err(fault),
     }
 }
@@ -101,7 +106,7 @@ fn perform_text(rt: &HostRuntime, text: TextTask) -> u8 {
     let result = run(rt, text, &mut reader);
     let status = status(rt, &result);
     if let Some(input) = reader.into_inner().kept() {
-        say_more(rt, text.task, input, &result);
+        say_more(rt, subject_of(text.task), input, result.as_ref().err());
     }
     status
 }
@@ -118,6 +123,11 @@ fn run<R: Read>(rt: &HostRuntime, text: TextTask, reader: &mut Port<R>) -> Resul
                 return Err(AllocError.into()); // no more is kept of it
             };
             run_all(alloc, reader, &mut Port::new(gathering))
+        }
+        Task::Show if rt.stdout().is_terminal() && is_asked(rt) => {
+            let marks = Some(Marks::of_capture(alloc));
+            let mut writer = Port::new(Colouring::new(alloc, rt.stdout(), marks));
+            show(alloc, text, reader, &mut writer)
         }
         Task::Show => show(alloc, text, reader, &mut Port::new(rt.stdout())),
     }
@@ -147,22 +157,11 @@ fn status(rt: &HostRuntime, ended: &Result<(), EngineFault>) -> u8 {
     }
 }
 
-/// Explains the fault of a run on standard error, and warns of what is ignored in its input.
-fn say_more(rt: &HostRuntime, task: Task, input: &[u8], ended: &Result<(), EngineFault>) {
-    let subject = match task {
+/// Whose input that of a task is.
+fn subject_of(task: Task) -> Subcommand {
+    match task {
         Task::Answer => Subcommand::Answer,
         Task::Run => Subcommand::Run,
         Task::Show => Subcommand::Show,
-    };
-    if let Err(fault) = ended
-        && let Ok(text) = explain(rt.alloc(), subject, input, fault)
-        && !text.is_empty()
-    {
-        let _ = eprintln!(rt; "mctpctl: {text}");
-    }
-    if let Ok(found) = warnings(rt.alloc(), subject, input) {
-        for text in found.iter() {
-            let _ = eprintln!(rt; "mctpctl: warning: {text}");
-        }
     }
 }

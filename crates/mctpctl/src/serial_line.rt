@@ -9,24 +9,31 @@ ghost use Rattle.pldm_responder.specs.ResponderViews.{held_of};
 
 use crate::control_responder::{control_responder, eid_at_first};
 use crate::device_file::{device_text, read_served};
-use crate::faults::{engine_fault, print_fault};
-use crate::statuses::{DONE, FAILED};
+use crate::faults::{engine_fault, print_fault, say_more};
+use crate::line::{EndingReader, input_name};
+use crate::statuses::{DONE, FAILED, USAGE};
+use line_faults::{FaultsPart, FaultyReader, FaultyWriter, LineFaults, read_faults};
 use mctp_serial::FrameReader;
-use mctpctl_command_line::ServeOptions;
+use mctpctl_command_line::{NO_FAULTS, ServeOptions, TRY_HELP};
+use mctpctl_explain::Subcommand;
 use mctpctl_input::{EngineFault, Port};
 use pldm_device::{ControlTable, Description, SimDevice};
-use pldm_line::{Log, ServedLine, SystemTicks, serve};
+use pldm_line::{Log, ServeFault, ServedLine, SystemTicks, Ticks, Watch, serve};
 use pldm_responder::{Bounds, Responder, ResponderSettings};
 use std::alloc::{AllocError, Global};
 use std::fs::File;
-use std::io::{ErrorKind, Stderr};
+use std::io::{ErrorKind, IsTerminal, Stderr};
 use std::{fs, io};
 
 /// Why a device was not served until its line ended.
 #[derive(Drop)]
 enum ServiceFault {
+    /// The faults of the line are spelled in another way.
+    Faults(FaultsPart),
     /// The description's file was not opened or read.
     Device(io::Error),
+    /// The description of this text was refused.
+    Refused(EngineFault, Vec<u8>),
     /// The capture's file was not made.
     Capture(io::Error),
     /// The clock gave no reading.
@@ -43,7 +50,18 @@ pub fn serve_device(rt: &HostRuntime, service: &ServeOptions<'_>) -> u8
 {
     match run(rt, service) {
         Ok(()) => DONE,
+        Err(ServiceFault::Faults(part)) => {
+            let _ = eprint!(rt; "{NO_FAULTS}{}{TRY_HELP}", part.text());
+            USAGE
+        }
         Err(ServiceFault::Device(error)) => file_failed(rt, service.device, &error),
+        Err(ServiceFault::Refused(fault, text)) => {
+            let status = print_fault(rt, &fault);
+            if service.explain {
+                say_more(rt, Subcommand::Serve, &text, Some(&fault));
+            }
+            status
+        }
         Err(ServiceFault::Capture(error)) => {
             let name = service.log.unwrap_or(""); // there is one, where a capture was to be made
             file_failed(rt, name, &error)
@@ -71,21 +89,60 @@ fn file_failed(rt: &HostRuntime, name: &str, error: &io::Error) -> u8
 /// Reads the description, and then the line to its end.
 fn run(rt: &HostRuntime, service: &ServeOptions<'_>) -> Result<(), ServiceFault> {
     let alloc = rt.alloc();
-    let (description, table) = described(rt, service.device)?;
+    let faults = faults_of(service)?;
+    let (description, table) = described(rt, service)?;
     let watch = watcher(rt, service)?;
     let Ok(ticks) = SystemTicks::new(rt) else {
         return Err(ServiceFault::Clock);
     };
     let mut line = served_line(alloc, description, &table, ticks, watch);
-    let mut reader = Port::new(rt.stdin());
-    let mut writer = Port::new(rt.stdout());
-    match serve(&mut line, &mut reader, &mut writer) {
+    match serve_on(rt, &mut line, faults) {
         Ok(()) if line.watch.log_failed() => Err(ServiceFault::Log),
         Ok(()) => Ok(()),
         Err(fault) => Err(match engine_fault(fault) {
             Some(fault) => ServiceFault::Engine(fault),
             None => ServiceFault::Clock,
         }),
+    }
+}
+
+/// The faults of the line, where some are asked for.
+fn faults_of(service: &ServeOptions<'_>) -> Result<Option<LineFaults>, ServiceFault> {
+    let Some(word) = service.faults else {
+        return Ok(None);
+    };
+    match read_faults(word.as_bytes()) {
+        Ok(faults) => Ok(Some(faults)),
+        Err(part) => Err(ServiceFault::Faults(part)),
+    }
+}
+
+/// Serves a line on standard input and output, with these faults. That a terminal has hung up is said on standard
+/// error.
+fn serve_on<C: Ticks, L: Watch>(
+    rt: &HostRuntime,
+    line: &mut ServedLine<SimDevice, C, L>,
+    faults: Option<LineFaults>,
+) -> Result<(), ServeFault> {
+    let name = input_name(rt);
+    let input = EndingReader::new(rt.stdin());
+    let ended = match faults {
+        Some(faults) => serve(
+            line,
+            &mut Port::new(FaultyReader::new(rt, faults, input)),
+            &mut Port::new(FaultyWriter::new(rt, faults, rt.stdout())),
+        ),
+        None => serve(line, &mut Port::new(input), &mut Port::new(rt.stdout())),
+    };
+    let Some(name) = name else {
+        return ended;
+    };
+    match ended {
+        Err(fault) if fault != ServeFault::Write || rt.stdin().is_terminal() => Err(fault),
+        _ => {
+            let _ = eprintln!(rt; "mctpctl: {name}: the line ended");
+            Ok(())
+        }
     }
 }
 
@@ -140,9 +197,13 @@ fn watcher(
     Ok(Log::new(rt.alloc(), drops, capture))
 }
 
-/// The device that the file of this name describes, and what the file says of its control messages.
-fn described(rt: &HostRuntime, name: &str) -> Result<(Description, ControlTable), ServiceFault> {
-    let text = match device_text(rt, name) {
+/// The device that the description's file describes, and what the file says of its control messages. With `--explain`
+/// what is ignored in it is said.
+fn described(
+    rt: &HostRuntime,
+    service: &ServeOptions<'_>,
+) -> Result<(Description, ControlTable), ServiceFault> {
+    let text = match device_text(rt, service.device) {
         Ok(text) => text,
         Err(error) if error.kind() == ErrorKind::OutOfMemory => {
             return Err(ServiceFault::Engine(AllocError.into()));
@@ -150,7 +211,12 @@ fn described(rt: &HostRuntime, name: &str) -> Result<(Description, ControlTable)
         Err(error) => return Err(ServiceFault::Device(error)),
     };
     match read_served(rt.alloc(), &text) {
-        Ok(served) => Ok(served),
-        Err(fault) => Err(ServiceFault::Engine(fault)),
+        Ok(served) => {
+            if service.explain {
+                say_more(rt, Subcommand::Serve, &text, None);
+            }
+            Ok(served)
+        }
+        Err(fault) => Err(ServiceFault::Refused(fault, text)),
     }
 }

@@ -1,151 +1,193 @@
-//! The file that keeps when a device was asked last, so that the next `ask` waits no longer than it has to.
+//! What the file of a line's state says of earlier requests, and what is said of it.
 
-ghost use Rattle.std.specs.Prelude.{◌≡◌, ◌<◌, ◌^◌, ◌/◌, IfOk, IfSome, None, option_map, string_bytes};
-ghost use Rattle.std.specs.Time.{system_time_nanos};
-ghost use Rattle.mctpctl.specs.States.{last_in, settling_in, state_text};
+ghost use Rattle.std.specs.Prelude.{◌≡◌, ◌≤◌, IfErr};
+ghost use Rattle.mctpctl.specs.States.{first_query};
 
-use crate::device_file::device_text;
-use line_words::read_number;
-use mctp_packet::{Keep, Memory};
-use std::alloc::Global;
+use crate::keeper::{Keeper, WALK_QUERIES};
+use crate::settings::Settings;
+use crate::statuses::{FAILED, USAGE};
+use mctp_packet::Moment;
+use mctpctl_command_line::LineOptions;
+use mctpctl_state::{
+    Begun, Earlier, Queries, StateFault, StateFile, Unknown, boot_moment, state_folder, state_name,
+};
+use pldm_requester::{Openings, Pace, Requester, ResumeFault};
+use pldm_wire::INSTANCE_IDS;
 use std::fs;
-use std::io::{self, ErrorKind, Write};
-use std::time::{SystemTime, UNIX_EPOCH};
+use std::io::{self, ErrorKind};
 
-/// The last moment that a file can keep, in milliseconds since 1970: one of 16 digits.
-pub const MAX_MOMENT: u64 = 9_999_999_999_999_999;
-
-/// What the moment of a file ends with.
-const LINE_END: u8 = b'\n';
-
-/// Why the file of a state is of no use.
+/// What is known of earlier requests when a run begins.
 #[derive(Drop)]
-pub enum StateFault {
-    /// It was not read, made or written.
-    File(io::Error),
-    /// It holds something else.
-    Content,
-    /// The clock gave no reading.
-    Clock,
-}
-
-impl From<io::Error> for StateFault {
-    fn from(error: io::Error) -> StateFault {
-        StateFault::File(error)
-    }
-}
-
-/// What is known of earlier requests.
-#[derive(Clone, Copy, Debug)]
-pub struct Earlier {
-    /// The moment up to which they were opened, where it is known.
-    pub last: Option<u64>,
-    /// The present moment.
+pub struct LineState {
+    /// What keeps those of this run.
+    pub keeper: Keeper,
+    /// The requester that goes on after earlier requests, where they are known.
+    pub requester: Option<Requester>,
+    /// The instance ID of the first control query; `None` where answers to earlier ones have to pass first.
+    pub first_query: Option<u8>,
+    /// The present moment, in milliseconds since the system's start where that is known.
     pub present: u64,
 }
 
-/// What the file of this name says of earlier requests, which is nothing where there is none. Until [`end_state`] the
-/// file is empty, so a run that is broken off leaves no moment.
-pub fn begin_state(rt: &HostRuntime, file: Option<&str>) -> Result<Earlier, StateFault>
-    ensures nothing { option_map (λ name. name.now) file.entry ≡ None → IfOk result (λ earlier. earlier.last ≡ None) }
+/// Locks and reads the file of the line's state: the one that is named, else the usual one of the line and the two
+/// endpoints; none with `--no-state`, or where neither is named. What is found is said on standard error; where nothing
+/// may be asked, the exit status is returned.
+pub fn begin_state(
+    rt: &HostRuntime,
+    link: &LineOptions<'_>,
+    settings: &Settings,
+) -> Result<LineState, u8>
+    ensures { IfErr result (λ status. status ≤ FAILED) }
 {
-    let Some(name) = file else {
-        return Ok(Earlier {
-            last: None,
-            present: 0,
-        });
-    };
-    let last = match device_text(rt, name) {
-        Ok(text) => match last_moment(&text) {
-            Some(last) => last,
-            None => return Err(StateFault::Content),
+    if link.no_state {
+        return Ok(nothing_kept(rt));
+    }
+    match (link.state, link.line) {
+        (Some(name), _) => match StateFile::begin(rt, name, settings.own, settings.device) {
+            Ok(begun) => Ok(state_by(rt, name, settings, begun)),
+            Err(fault) => Err(state_failed(rt, name, &fault)),
         },
-        Err(error) if error.kind() == ErrorKind::NotFound => None,
-        Err(error) => return Err(StateFault::File(error)),
+        (None, Some(line)) => begin_usual(rt, line, settings),
+        (None, None) => Ok(nothing_kept(rt)),
+    }
+}
+
+/// As [`begin_state`], with the usual file of a line. Where that cannot be had, nothing is kept, and that is said.
+fn begin_usual(rt: &HostRuntime, line: &str, settings: &Settings) -> Result<LineState, u8>
+    ensures { IfErr result (λ status. status ≤ FAILED) }
+{
+    let name = match usual_name(rt, line, settings) {
+        Ok(Some(name)) => name,
+        Ok(None) => return Ok(nothing_kept(rt)),
+        Err(error) if error.kind() == ErrorKind::NotFound => return Ok(nothing_kept(rt)), // there is no such line
+        Err(error) => return Ok(say_not_kept(rt, line, &error)),
     };
-    write(rt, name, b"")?;
-    Ok(Earlier {
-        last,
-        present: now(rt)?,
-    })
+    match StateFile::begin(rt, &name, settings.own, settings.device) {
+        Ok(begun) => Ok(state_by(rt, &name, settings, begun)),
+        Err(StateFault::InUse) => Err(say_in_use(rt, line)),
+        Err(StateFault::File(error)) => Ok(say_not_kept(rt, &name, &error)),
+        Err(fault) => Err(state_failed(rt, &name, &fault)),
+    }
 }
 
-/// Keeps in the file of this name, where there is one, that the last request was opened before now, and returns the
-/// exit status of the requests.
-pub fn end_state(rt: &HostRuntime, file: Option<&str>, status: u8) -> Result<u8, StateFault>
-    ensures { IfOk result (λ kept. kept ≡ status) }
-{
-    let Some(name) = file else {
-        return Ok(status);
+/// The usual file of a line, whose folder is made where there is none. `None` where the user has no such folder.
+fn usual_name(rt: &HostRuntime, line: &str, settings: &Settings) -> io::Result<Option<String>> {
+    let Some(folder) = state_folder(rt)? else {
+        return Ok(None);
     };
-    let moment = now(rt)?;
-    let Ok(text) = state_text(rt.alloc(), moment) else {
-        return Err(StateFault::File(ErrorKind::OutOfMemory.into()));
+    let name = state_name(rt, &folder, line, settings.own, settings.device)?;
+    fs::create_dir_all(rt, folder.as_str())?;
+    Ok(Some(name))
+}
+
+/// Says that another run asks the same device on a line, and returns the exit status.
+fn say_in_use(rt: &HostRuntime, line: &str) -> u8
+    ensures { result ≡ FAILED }
+{
+    let _ = eprintln!(rt; "mctpctl: {line}: in use by another program");
+    FAILED
+}
+
+/// Says that nothing is kept, and why.
+fn say_not_kept(rt: &HostRuntime, name: &str, error: &io::Error) -> LineState {
+    let _ = eprintln!(rt; "mctpctl: {name}: {error}; no state is kept");
+    nothing_kept(rt)
+}
+
+/// Where nothing is kept.
+fn nothing_kept(rt: &HostRuntime) -> LineState {
+    let present = match boot_moment(rt) {
+        Ok(now) => now.milliseconds,
+        Err(_) => 0,
     };
-    write(rt, name, text.as_bytes())?;
-    Ok(status)
-}
-
-/// The text that keeps a moment.
-fn state_text(alloc: Global, moment: u64) -> Result<String, Memory>
-    ensures { IfOk result (λ text. string_bytes text ≡ state_text moment) }
-{
-    Ok(format!(in alloc; "{moment}\n")?)
-}
-
-/// What a file keeps: no moment where it is empty, else one with a line end, so that a moment which was cut off is
-/// none. `None` where it holds something else.
-fn last_moment(text: &[u8]) -> Option<Option<u64>>
-    ensures { result ≡ last_in text.now }
-{
-    if text.is_empty() {
-        return Some(None);
-    }
-    let (digits, end) = text.split_at(text.len() - 1);
-    if end[0] != LINE_END {
-        return None;
-    }
-    Some(Some(read_number(digits, MAX_MOMENT)?))
-}
-
-/// For how many milliseconds from now on answers may come to earlier requests: twice the keeping time after the moment
-/// up to which they were opened, and from now on where no moment is known, or one to come.
-pub fn settling_time(keep: Keep, earlier: &Earlier) -> u64
-    ensures value { result ≡ settling_in keep earlier.now.last earlier.now.present }
-    ensures range { result < 2 ^ 60 }
-{
-    let whole = 2 * u64::from(keep.get());
-    match earlier.last {
-        Some(last) if last <= earlier.present => whole.saturating_sub(earlier.present - last),
-        _ => whole,
+    LineState {
+        keeper: Keeper::new(None, Queries::NONE),
+        first_query: Some(0),
+        requester: None,
+        present,
     }
 }
 
-/// The moment by the system's clock, in milliseconds since 1970.
-fn now(rt: &HostRuntime) -> Result<u64, StateFault> {
-    let Ok(moment) = SystemTime::now(rt) else {
-        return Err(StateFault::Clock);
+/// What a file says. Where it is there and tells nothing, the reason is said.
+fn state_by(rt: &HostRuntime, name: &str, settings: &Settings, begun: Begun) -> LineState {
+    let Begun {
+        file,
+        earlier,
+        present,
+    } = begun;
+    let (requester, queries) = match earlier {
+        Earlier::Known(known) => {
+            let requester = resumed(rt, name, settings, &known.openings, present);
+            (requester, known.queries)
+        }
+        Earlier::New => (None, Queries::NONE),
+        Earlier::Unknown(reason) => {
+            say_unknown(rt, name, settings, reason);
+            (None, Queries::NONE)
+        }
     };
-    match milliseconds_since_1970(moment) {
-        Some(milliseconds) => Ok(milliseconds),
-        None => Err(StateFault::Clock),
+    LineState {
+        keeper: Keeper::new(Some(file), queries),
+        first_query: first_query(queries, settings, present),
+        requester,
+        present,
     }
 }
 
-/// The whole milliseconds from 1970 to a moment; `None` where it is before 1970, or they are too many.
-fn milliseconds_since_1970(moment: SystemTime) -> Option<u64>
-    ensures { IfSome result (λ milliseconds. milliseconds ≡ system_time_nanos moment / 1_000_000) }
+/// The requester that goes on after these openings; `None` where no requester leaves them, which is said, or none can be
+/// made.
+fn resumed(
+    rt: &HostRuntime,
+    name: &str,
+    settings: &Settings,
+    openings: &Openings,
+    present: u64,
+) -> Option<Requester> {
+    let Settings {
+        own,
+        device,
+        timing,
+    } = *settings;
+    let now = Moment::new(present)?;
+    let pace = Pace::at_default(timing.keep);
+    match Requester::resumed(rt.alloc(), own, device, timing, pace, now, openings) {
+        Ok(requester) => Some(requester),
+        Err(ResumeFault::Openings) => {
+            say_unknown(rt, name, settings, Unknown::Damaged);
+            None
+        }
+        Err(ResumeFault::Setting(_) | ResumeFault::Memory(_)) => None, // a new one has the same fault
+    }
+}
+
+/// The instance ID of the first of a walk's control queries: the next one, and 0 again where these do not suffice and
+/// the last query went out twice the keeping time ago or earlier.
+fn first_query(queries: Queries, settings: &Settings, present: u64) -> Option<u8>
+    ensures { result ≡ first_query queries settings.now.timing.keep present }
 {
-    match moment.duration_since(UNIX_EPOCH) {
-        Ok(since) => u64::try_from(since.as_millis()).ok(),
-        Err(_) => None,
+    if queries.next <= INSTANCE_IDS - WALK_QUERIES {
+        return Some(queries.next);
+    }
+    let whole = 2 * u64::from(settings.timing.keep.get());
+    match queries.last {
+        Some(last) if last.saturating_add(whole) <= present => Some(0),
+        _ => None,
     }
 }
 
-/// Makes the file of this name anew, with this text.
-fn write(rt: &HostRuntime, name: &str, text: &[u8]) -> Result<(), StateFault> {
-    let mut file = fs::create(rt, name)?;
-    file.write_all(text)?;
-    file.flush()?;
-    Ok(())
+/// Says why a file tells nothing of earlier requests, and what that costs.
+fn say_unknown(rt: &HostRuntime, name: &str, settings: &Settings, reason: Unknown) {
+    let wait = 2 * u64::from(settings.timing.keep.get());
+    let _ = eprintln!(rt; "mctpctl: {name}: {reason}; {wait} ms pass first");
+}
+
+/// Says why the file of the state is of no use, and returns the exit status.
+fn state_failed(rt: &HostRuntime, name: &str, fault: &StateFault) -> u8
+    ensures { result ≤ FAILED }
+{
+    let _ = eprintln!(rt; "mctpctl: {name}: {fault}");
+    match fault {
+        StateFault::Content => USAGE,
+        StateFault::File(_) | StateFault::InUse => FAILED,
+    }
 }

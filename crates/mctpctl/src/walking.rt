@@ -1,51 +1,63 @@
 //! `walk`: a device is asked for all that it has, its answers are printed, and a table of what it measures and sets.
 
-ghost use Rattle.std.specs.Prelude.{◌≡◌, ◌⊎◌, ◌<◌, ◌≤◌, ◌++◌, IfOk, IfErr, IfSome, OnOk, length, map, option_map};
+ghost use Rattle.std.specs.Prelude.{◌+◌, ◌≡◌, ◌⊎◌, ◌<◌, ◌≤◌, ◌++◌, IfOk, IfErr, IfSome, OnOk, length, map, option_map};
 ghost use Rattle.std.specs.Io.KnownBytes.{Appends};
 ghost use Rattle.mctp_control.specs.declared.assigned.TheConstants.{INSTANCE_IDS};
-ghost use Rattle.mctpctl.specs.AskedTexts.{IsOfPrinting};
+ghost use Rattle.mctpctl.specs.AskedTexts.{IsOfPrinting, Reports};
 ghost use Rattle.mctpctl.specs.Conversations.{IsGoingOn, printed_in, shown_in};
-ghost use Rattle.mctpctl.specs.WalkedTexts.{AsksEndpoint, StepsOn, StopsNext, StopsWalking, ReportsQuery, WalksDevice, WalksThrough, described_at, goes_on, query_of, record_text, status_of_query, rows_at, walk_view, walk_text, walked_rows};
+ghost use Rattle.mctpctl.specs.WalkedTexts.{AsksAndPrints, AsksEndpoint, StepsOn, StopsNext, StopsWalking, ReportsQuery, WalksDevice, WalksThrough, described_at, goes_on, query_of, record_text, status_of_query, rows_at, walk_view, walk_text, walked_rows};
 ghost use Rattle.mctpctl_table.specs.Rows.{rows_by};
+ghost use Rattle.pldm_line.specs.Asked.{AskStops};
 ghost use Rattle.pldm_line.specs.Queries.{StopsQuery};
 ghost use Rattle.mctpctl_input.specs.Ports.{inner_of};
 
-use crate::asking::{ask_command, name_of, print_message, print_text, status_of_answer};
+use crate::asking::{
+    AnswerForm, ask_command, name_of, print_message, print_text, status_of_answer,
+};
 use crate::conversation::Conversation;
 use crate::settings::Settings;
 use crate::statuses::{DONE, FAILED, REFUSED};
-use mctp_control::{Command as ControlCommand, Query, SUCCESS, read_response};
-use mctp_packet::{Memory, Tag};
+use mctp_control::{AnyQuery, Command as ControlCommand, Query, SUCCESS, read_response};
+use mctp_packet::{Body, Memory, Tag};
 use mctpctl_command_line::WalkOptions;
 use mctpctl_decode::push_record;
 use mctpctl_input::Port;
 use mctpctl_table::{Described, Table};
 use mctpctl_texts::write_text;
 use pldm_discovery::Walk;
-use pldm_line::{AskFault, Ticks, ask_control};
+use pldm_line::{AskFault, Ticks, ask, ask_control};
 use pldm_wire::{Command, GET_NEXT_PART};
 use std::alloc::Global;
 use std::fs;
 use std::io::{self, IsTerminal, Read, Write};
 
-/// Asks the device for all that it has over a line, prints its answers and the table, and returns the exit status.
+/// Asks the device for all that it has over a line, prints its answers and the table, and returns the exit status. The
+/// first command without an answer is the last.
 pub fn walk_device<C: Ticks, R: Read, W: Write, O: Write>(
     rt: &HostRuntime,
     settings: &Settings,
+    first_query: u8,
     options: &WalkOptions<'_>,
     conversation: &mut Conversation<C, R, W, O>,
 ) -> Result<u8, AskFault>
+    requires queries { first_query + 3 ≤ INSTANCE_IDS }
     requires going { IsGoingOn conversation.old }
-    ensures walked { IfOk result (λ status. WalksDevice settings.now status
+    ensures walked { IfOk result (λ status. WalksDevice settings.now first_query status
         (shown_in C.to_come R.remaining W.contents conversation.old)
         (shown_in C.to_come R.remaining W.contents conversation.new)
         (printed_in O.contents conversation.old) (printed_in O.contents conversation.new)) }
     ensures range { IfOk result (λ status. status ≤ FAILED) }
 {
-    let found = match ask_endpoint(rt, settings, conversation) {
+    let keeper = &mut conversation.keeper;
+    keeper.keep_queries(rt, first_query, &conversation.line)?;
+    let found = match ask_endpoint(rt, settings, first_query, conversation) {
         Ok(found) => found,
         Err(fault) => return Err(fault),
     };
+    conversation.keeper.end_queries(&conversation.line);
+    if found == FAILED {
+        return Ok(FAILED);
+    }
     let mut walk = Walk::new(rt.alloc());
     let walked = match ask_all(rt, &mut walk, conversation) {
         Ok(walked) => walked,
@@ -66,32 +78,43 @@ pub fn walk_device<C: Ticks, R: Read, W: Write, O: Write>(
 }
 
 /// Asks the device what a bus owner asks an endpoint that it has found (DSP0236, "MCTP control protocol"): its endpoint
-/// ID, its UUID and its message types; and returns the greatest of the exit statuses.
+/// ID, its UUID and its message types, up to the first without an answer; and returns the greatest of the exit statuses.
 fn ask_endpoint<C: Ticks, R: Read, W: Write, O: Write>(
     rt: &HostRuntime,
     settings: &Settings,
+    first: u8,
     conversation: &mut Conversation<C, R, W, O>,
 ) -> Result<u8, AskFault>
+    requires queries { first + 3 ≤ INSTANCE_IDS }
     requires going { IsGoingOn conversation.old }
-    ensures asked { IfOk result (λ status. AsksEndpoint settings.now status
+    ensures asked { IfOk result (λ status. AsksEndpoint settings.now first status
         (shown_in C.to_come R.remaining W.contents conversation.old)
         (shown_in C.to_come R.remaining W.contents conversation.new)
         (printed_in O.contents conversation.old) (printed_in O.contents conversation.new)) }
     ensures range { IfOk result (λ status. status ≤ FAILED) }
     ensures going { OnOk result (IsGoingOn conversation.new) }
 {
-    let eid = query(settings, 0, ControlCommand::GetEndpointId);
-    let eid_status = match ask_query(rt, settings, "GetEndpointID", &eid, conversation) {
+    let eid = query(settings, first, ControlCommand::GetEndpointId);
+    let eid_status = match report_query(rt, settings, "GetEndpointID", &eid, conversation) {
         Ok(status) => status,
         Err(fault) => return Err(fault),
     };
-    let uuid = query(settings, 1, ControlCommand::GetEndpointUuid);
-    let uuid_status = match ask_query(rt, settings, "GetEndpointUUID", &uuid, conversation) {
+    if eid_status == FAILED {
+        say_without_eid(rt, settings);
+        return Ok(FAILED);
+    }
+    let second = first + 1;
+    let uuid = query(settings, second, ControlCommand::GetEndpointUuid);
+    let uuid_status = match report_query(rt, settings, "GetEndpointUUID", &uuid, conversation) {
         Ok(status) => status,
         Err(fault) => return Err(fault),
     };
-    let types = query(settings, 2, ControlCommand::GetMessageTypeSupport);
-    let types_status = match ask_query(
+    if uuid_status == FAILED {
+        return Ok(FAILED);
+    }
+    let third = second + 1;
+    let types = query(settings, third, ControlCommand::GetMessageTypeSupport);
+    let types_status = match report_query(
         rt,
         settings,
         "GetMessageTypeSupport",
@@ -101,30 +124,30 @@ fn ask_endpoint<C: Ticks, R: Read, W: Write, O: Write>(
         Ok(status) => status,
         Err(fault) => return Err(fault),
     };
-    Ok(eid_status.max(uuid_status).max(types_status))
+    Ok(eid_status.max(uuid_status.max(types_status)))
 }
 
 /// The query of a command with this instance ID.
-fn query(settings: &Settings, id: u8, command: ControlCommand) -> Query
+fn query(settings: &Settings, id: u8, command: ControlCommand) -> AnyQuery
     requires { id < INSTANCE_IDS }
     ensures { result ≡ query_of settings.now id command }
 {
-    Query::new(
+    AnyQuery::ToDevice(Query::new(
         settings.own,
         settings.device,
         Tag::new(0).unwrap(),
         id,
         command,
-    )
+    ))
 }
 
-/// Asks a query and prints its own answer, and returns the exit status. Where none came, that is said on standard
-/// error, with the name of its command.
-fn ask_query<C: Ticks, R: Read, W: Write, O: Write>(
+/// Asks a query, prints its own answer, and returns the exit status. Where none came, that is said on standard error,
+/// with the name of its command.
+fn report_query<C: Ticks, R: Read, W: Write, O: Write>(
     rt: &HostRuntime,
     settings: &Settings,
     name: &str,
-    query: &Query,
+    query: &AnyQuery,
     conversation: &mut Conversation<C, R, W, O>,
 ) -> Result<u8, AskFault>
     requires going { IsGoingOn conversation.old }
@@ -139,14 +162,7 @@ fn ask_query<C: Ticks, R: Read, W: Write, O: Write>(
     ensures range { IfOk result (λ status. status ≤ FAILED) }
     ensures going { OnOk result (IsGoingOn conversation.new) }
 {
-    let Conversation {
-        line,
-        reader,
-        writer,
-        out,
-    } = conversation;
-    let (timeout, tries) = (settings.timing.timeout, settings.timing.tries);
-    let answer = match ask_control(line, query, timeout, tries, reader, writer) {
+    let answer = match ask_query(rt, settings, query, conversation) {
         Ok(answer) => answer,
         Err(fault) => return Err(fault),
     };
@@ -154,8 +170,45 @@ fn ask_query<C: Ticks, R: Read, W: Write, O: Write>(
         say_no_answer(rt, name);
         return Ok(FAILED);
     };
+    Ok(status_of_query(&message))
+}
+
+/// Asks a query, prints its own answer, and returns its message; `None` where none came.
+pub fn ask_query<C: Ticks, R: Read, W: Write, O: Write>(
+    rt: &HostRuntime,
+    settings: &Settings,
+    query: &AnyQuery,
+    conversation: &mut Conversation<C, R, W, O>,
+) -> Result<Option<Body>, AskFault>
+    requires going { IsGoingOn conversation.old }
+    ensures asked { IfOk result (λ answer. AsksAndPrints settings.now.timing query.now
+        (option_map (λ answer. answer.items) answer)
+        (shown_in C.to_come R.remaining W.contents conversation.old)
+        (shown_in C.to_come R.remaining W.contents conversation.new)
+        (printed_in O.contents conversation.old) (printed_in O.contents conversation.new)) }
+    ensures stopped { IfErr result (λ fault. IsOfPrinting fault
+        ⊎ StopsQuery query.now settings.now.timing.timeout settings.now.timing.tries fault
+        (shown_in C.to_come R.remaining W.contents conversation.old)
+        (shown_in C.to_come R.remaining W.contents conversation.new)) }
+    ensures going { OnOk result (IsGoingOn conversation.new) }
+{
+    let Conversation {
+        line,
+        reader,
+        writer,
+        out,
+        ..
+    } = conversation;
+    let (timeout, tries) = (settings.timing.timeout, settings.timing.tries);
+    let answer = match ask_control(line, query, timeout, tries, reader, writer) {
+        Ok(answer) => answer,
+        Err(fault) => return Err(fault),
+    };
+    let Some(message) = answer else {
+        return Ok(None);
+    };
     match print_message(rt.alloc(), false, &message, out) {
-        Ok(()) => Ok(status_of_query(&message)),
+        Ok(()) => Ok(Some(message)),
         Err(fault) => Err(fault),
     }
 }
@@ -176,6 +229,15 @@ fn say_no_answer(rt: &HostRuntime, name: &str) {
     let _ = eprintln!(rt; "mctpctl: {name}: no answer");
 }
 
+/// Says what may help where nobody gives an endpoint ID: a device has none before a bus owner assigns one (DSP0236,
+/// "Special endpoint IDs").
+fn say_without_eid(rt: &HostRuntime, settings: &Settings) {
+    let eid = settings.device.get();
+    let _ = eprintln!(rt;
+        "mctpctl: nobody answered as endpoint {eid}; a device that has no endpoint ID yet gets it by 'mctpctl assign'"
+    );
+}
+
 /// The name of the command that a walk asks next; nothing at its end.
 fn next_name(walk: &Walk) -> &'static str {
     match walk.next() {
@@ -184,7 +246,8 @@ fn next_name(walk: &Walk) -> &'static str {
     }
 }
 
-/// Asks the commands of a walk one after another, up to its end, and returns the greatest of their exit statuses.
+/// Asks the commands of a walk one after another, up to its end or to one without an answer, and returns the greatest of
+/// their exit statuses.
 pub fn ask_all<C: Ticks, R: Read, W: Write, O: Write>(
     rt: &HostRuntime,
     walk: &mut Walk,
@@ -204,16 +267,17 @@ pub fn ask_all<C: Ticks, R: Read, W: Write, O: Write>(
     let mut status = DONE;
     for _ in 0..u64::MAX {
         let name = next_name(walk);
-        let asked = match ask_next(rt.alloc(), walk, conversation) {
+        let asked = match ask_next(rt, walk, conversation) {
             Ok(asked) => asked,
             Err(fault) => return Err(fault),
         };
-        match asked {
-            Some(one) => status = status.max(one),
-            None => return Ok(status),
-        }
-        if asked == Some(FAILED) {
+        let Some(one) = asked else {
+            return Ok(status);
+        };
+        status = status.max(one);
+        if one == FAILED {
             say_no_answer(rt, name);
+            return Ok(status);
         }
         if shows_progress {
             say_progress(rt, walk);
@@ -225,7 +289,7 @@ pub fn ask_all<C: Ticks, R: Read, W: Write, O: Write>(
 /// Asks the next command of a walk, prints its own answer, hands it to the walk, and returns the exit status; `None` at
 /// the walk's end, where nothing is done.
 fn ask_next<C: Ticks, R: Read, W: Write, O: Write>(
-    alloc: Global,
+    rt: &HostRuntime,
     walk: &mut Walk,
     conversation: &mut Conversation<C, R, W, O>,
 ) -> Result<Option<u8>, AskFault>
@@ -242,7 +306,7 @@ fn ask_next<C: Ticks, R: Read, W: Write, O: Write>(
     let Some(command) = walk.next() else {
         return Ok(None);
     };
-    let number = match ask_command(alloc, false, &command, conversation) {
+    let number = match ask_command(rt, AnswerForm::WithCommand, &command, conversation) {
         Ok(number) => number,
         Err(fault) => return Err(fault),
     };
@@ -251,7 +315,7 @@ fn ask_next<C: Ticks, R: Read, W: Write, O: Write>(
     if walk.take(answer).is_err() {
         return Err(AskFault::Memory);
     }
-    match print_record(alloc, &command, walk, count, &mut conversation.out) {
+    match print_record(rt.alloc(), &command, walk, count, &mut conversation.out) {
         Ok(()) => {}
         Err(fault) => return Err(fault),
     }

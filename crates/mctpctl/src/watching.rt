@@ -11,6 +11,7 @@ ghost use Rattle.mctpctl_input.specs.Ports.{inner_of, BothWork};
 
 use crate::asking::{print_text, status_of_answer};
 use crate::conversation::Conversation;
+use crate::keeper::Keeper;
 use crate::settings::{MAX_EVERY, Periods};
 use crate::statuses::{DONE, FAILED};
 use crate::walking::{add_heard, ask_all, described_of};
@@ -27,14 +28,32 @@ use std::fs::{self, File};
 use std::io::{self, Read, Write};
 
 /// Finds the sensors and effecters of the device over a line, reads them in each period, prints their table, and
-/// returns the exit status.
+/// returns what keeps its requests, with the exit status. Moments are printed from `start` on, one of the line's clock.
 pub fn watch_device<C: Ticks + Drop, R: Read + Drop, W: Write + Drop, O: Write + Drop>(
     rt: &HostRuntime,
     options: &WatchOptions<'_>,
     periods: &Periods,
+    start: u64,
     conversation: Conversation<C, R, W, O>,
-) -> Result<u8, AskFault>
+) -> (Keeper, Result<u8, AskFault>)
     requires going { IsGoingOn conversation }
+    ensures { IfOk result.1 (λ status. status ≤ FAILED) }
+{
+    let (mut quiet, mut out) = conversation.printing_to(Port::new(Vec::new(rt.alloc())));
+    let watched = watch_rounds(rt, options, periods, start, &mut quiet, &mut out);
+    (quiet.keeper, watched)
+}
+
+/// As [`watch_device`], over a line that prints nothing by itself.
+fn watch_rounds<C: Ticks, R: Read, W: Write, Q: Write, O: Write>(
+    rt: &HostRuntime,
+    options: &WatchOptions<'_>,
+    periods: &Periods,
+    start: u64,
+    quiet: &mut Conversation<C, R, W, Q>,
+    out: &mut Port<O>,
+) -> Result<u8, AskFault>
+    requires going { IsGoingOn quiet.old }
     ensures { IfOk result (λ status. status ≤ FAILED) }
 {
     let mut log = match log_of(rt, options) {
@@ -42,8 +61,10 @@ pub fn watch_device<C: Ticks + Drop, R: Read + Drop, W: Write + Drop, O: Write +
         Err(error) => return Ok(log_failed(rt, options, &error)),
     };
     let mut walk = Walk::new(rt.alloc());
-    let (mut quiet, mut out) = conversation.printing_to(Port::new(Vec::new(rt.alloc())));
-    let mut status = ask_all(rt, &mut walk, &mut quiet)?;
+    let mut status = ask_all(rt, &mut walk, quiet)?;
+    if status == FAILED {
+        return Ok(FAILED); // what it has is not known
+    }
     let Ok(described) = described_of(rt.alloc(), &walk) else {
         return Err(AskFault::Memory);
     };
@@ -51,17 +72,19 @@ pub fn watch_device<C: Ticks + Drop, R: Read + Drop, W: Write + Drop, O: Write +
     for period in 0..periods.count {
         let began = quiet.line.moment();
         let (table, one) = read_all(
-            rt.alloc(),
+            rt,
             &walk,
             &described,
+            &mut quiet.keeper,
             &mut quiet.line,
             &mut quiet.reader,
             &mut quiet.writer,
         )?;
         status = status.max(one);
         let last = if period > 0 { &before } else { &table };
-        print_round(rt.alloc(), began, &table, last, &mut out)?;
-        if let Err(error) = log_round(rt.alloc(), began, &table, &mut log) {
+        let moment = began.get().saturating_sub(start);
+        print_round(rt.alloc(), moment, &table, last, out)?;
+        if let Err(error) = log_round(rt.alloc(), moment, &table, &mut log) {
             return Ok(log_failed(rt, options, &error));
         }
         before = table;
@@ -98,9 +121,10 @@ fn log_failed(rt: &HostRuntime, options: &WatchOptions<'_>, error: &io::Error) -
 /// Reads each sensor and effecter of a walk once, and returns the table of what they say, with the greatest exit
 /// status.
 fn read_all<C: Ticks, R: Read, W: Write>(
-    alloc: Global,
+    rt: &HostRuntime,
     walk: &Walk,
     described: &[Option<Described>],
+    keeper: &mut Keeper,
     line: &mut AskingLine<C>,
     reader: &mut Port<R>,
     writer: &mut Port<W>,
@@ -116,10 +140,12 @@ fn read_all<C: Ticks, R: Read, W: Write>(
         (shown C.to_come R.remaining W.contents line.new reader.new writer.new)) }
     ensures works { OnOk result (BothWork reader.new writer.new) }
 {
-    let mut table = Table::new(alloc);
+    let mut table = Table::new(rt.alloc());
     let mut status = DONE;
     for place in 0..walk.found().len() {
-        match read_one(walk, described, place, line, reader, writer, &mut table) {
+        match read_one(
+            rt, walk, described, place, keeper, line, reader, writer, &mut table,
+        ) {
             Ok(one) => status = status.max(one),
             Err(fault) => return Err(fault),
         }
@@ -129,9 +155,11 @@ fn read_all<C: Ticks, R: Read, W: Write>(
 
 /// Reads the sensor or effecter at this place of a walk, adds its rows to a table, and returns the exit status.
 fn read_one<C: Ticks, R: Read, W: Write>(
+    rt: &HostRuntime,
     walk: &Walk,
     described: &[Option<Described>],
     place: usize,
+    keeper: &mut Keeper,
     line: &mut AskingLine<C>,
     reader: &mut Port<R>,
     writer: &mut Port<W>,
@@ -149,6 +177,7 @@ fn read_one<C: Ticks, R: Read, W: Write>(
         (shown C.to_come R.remaining W.contents line.new reader.new writer.new)) }
     ensures works { OnOk result (BothWork reader.new writer.new) }
 {
+    keeper.keep_next(rt, line)?;
     let question = question_at(walk, place);
     let asked = match ask(line, &question, reader, writer) {
         Ok(asked) => asked,
@@ -191,7 +220,7 @@ fn rest<C: Ticks, R: Read, W: Write>(
 /// Prints the table of a period: the moment, the rows, and a blank line. Rows that have changed are marked.
 fn print_round<O: Write>(
     alloc: Global,
-    moment: Moment,
+    moment: u64,
     table: &Table,
     before: &Table,
     out: &mut Port<O>,
@@ -207,32 +236,22 @@ fn print_round<O: Write>(
 }
 
 /// Adds the table of a period.
-fn push_round(
-    out: &mut Vec<u8>,
-    moment: Moment,
-    table: &Table,
-    before: &Table,
-) -> Result<(), Memory>
+fn push_round(out: &mut Vec<u8>, moment: u64, table: &Table, before: &Table) -> Result<(), Memory>
     ensures { OnOk result (out.new.items ≡ out.old.items ++ round_text moment table.now before.now) }
 {
-    write_number(out, moment.get())?;
+    write_number(out, moment)?;
     write_text(out, " ms\n")?;
     table.push_marked(before, out)?;
     write_text(out, "\n")
 }
 
 /// Writes the readings of a period to the log, where one is kept.
-fn log_round(
-    alloc: Global,
-    moment: Moment,
-    table: &Table,
-    log: &mut Option<File>,
-) -> io::Result<()> {
+fn log_round(alloc: Global, moment: u64, table: &Table, log: &mut Option<File>) -> io::Result<()> {
     let Some(file) = log else {
         return Ok(());
     };
     let mut text = Vec::new(alloc);
-    if table.push_log(moment.get(), &mut text).is_err() {
+    if table.push_log(moment, &mut text).is_err() {
         return Err(io::ErrorKind::OutOfMemory.into());
     }
     file.write_all(&text)?;

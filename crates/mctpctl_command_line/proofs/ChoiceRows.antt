@@ -6,7 +6,7 @@ use Rattle.clap.specs.declared.error.kind.ErrorKind.TheVariants.{ArgumentConflic
 use Rattle.mctpctl_input.specs.declared.binding.Binding.{Binding}
 use Rattle.mctpctl_input.specs.declared.binding.Binding.TheVariants.{I2c, I3c, Serial}
 use Rattle.mctpctl_command_line.specs.Choice.{command as the_command}
-use Rattle.mctpctl_command_line.specs.Choice.{choice_of, Asked, Linked, Questioned, to_ask, to_perform, to_serve, to_walk, to_watch}
+use Rattle.mctpctl_command_line.specs.Choice.{choice_of, Asked, Linked, Questioned, to_ask, to_assign, to_perform, to_serve, to_walk, to_watch}
 use Rattle.mctpctl_command_line.specs.declared.choice.Task.{Task}
 use Rattle.mctpctl_command_line.specs.declared.choice.Task.TheVariants.{Answer, Run, Show}
 
@@ -18,8 +18,8 @@ abbrev shows : Bool → Binding → Asked
 shows decode binding =
     to_perform (record { task = Show; explain = false; decode = decode; binding = Some binding })
 
-abbrev serves : List ℕ → Option (List ℕ) → Bool → Asked
-serves device log verbose = to_serve (record { device = device; log = log; verbose = verbose })
+abbrev serves : List ℕ → Option (List ℕ) → Bool → Option (List ℕ) → Asked
+serves device log verbose faults = to_serve (record { device = device; log = log; verbose = verbose; faults = faults; explain = false })
 
 answer : choice_of (codes "mctpctl" ∷ codes "answer" ∷ []) ≡ Some (asks Answer false false)
 unfolding clap_on_literals
@@ -92,13 +92,15 @@ unfolding clap_on_literals
 not_framed = refl
 
 serve : choice_of (codes "mctpctl" ∷ codes "serve" ∷ codes "--device" ∷ codes "fan.toml" ∷ [])
-    ≡ Some (serves (codes "fan.toml") None false)
+    ≡ Some (serves (codes "fan.toml") None false None)
 unfolding clap_on_literals
 serve = refl
 
 served_with_all :
-    choice_of (codes "mctpctl" ∷ codes "serve" ∷ codes "--verbose" ∷ codes "--log=line" ∷ codes "--device=fan.toml" ∷ [])
-    ≡ Some (serves (codes "fan.toml") (Some (codes "line")) true)
+    choice_of
+    (codes "mctpctl" ∷ codes "serve" ∷ codes "--verbose" ∷ codes "--log=line" ∷ codes "--device=fan.toml"
+    ∷ codes "--faults=7,10,10,50" ∷ [])
+    ≡ Some (serves (codes "fan.toml") (Some (codes "line")) true (Some (codes "7,10,10,50")))
 unfolding clap_on_literals
 served_with_all = refl
 
@@ -117,10 +119,11 @@ two_devices :
 unfolding clap_on_literals
 two_devices = refl
 
--- a line is not explained
-not_explained : choice_of (codes "mctpctl" ∷ codes "serve" ∷ codes "--device" ∷ codes "a" ∷ codes "--explain" ∷ []) ≡ None
+-- a description that is served is explained
+described : choice_of (codes "mctpctl" ∷ codes "serve" ∷ codes "--device" ∷ codes "a" ∷ codes "--explain" ∷ [])
+    ≡ Some (to_serve (record { device = codes "a"; log = None; verbose = false; faults = None; explain = true }))
 unfolding clap_on_literals
-not_explained = refl
+described = refl
 
 -- endpoint 8 asks endpoint 9 by so many words at the end of the line
 abbrev from_8_to_9 : Linked
@@ -132,6 +135,7 @@ from_8_to_9 = record {
   timeout = None;
   tries = None;
   state = None;
+  no_state = false;
 }
 
 abbrev by_words : ℕ → Questioned
@@ -157,6 +161,7 @@ asked_with_all :
         timeout = Some (codes "300");
         tries = Some (codes "3");
         state = Some (codes "last");
+        no_state = false;
       };
       hex = true;
     }))
@@ -198,3 +203,7 @@ watch_with_all :
     ≡ Some (to_watch (record { link = from_8_to_9; every = Some (codes "500"); count = Some (codes "3"); readings = Some (codes "csv") }))
 unfolding clap_on_literals
 watch_with_all = refl
+
+assign : choice_of (codes "mctpctl" ∷ codes "assign" ∷ codes "--own=8" ∷ codes "--device=9" ∷ []) ≡ Some (to_assign from_8_to_9)
+unfolding clap_on_literals
+assign = refl

@@ -49,12 +49,16 @@ value_option name = record (new_rule name) { long = Some name; action = Some Set
 abbrev pub text_subcommand : List ℕ → App
 text_subcommand name = with_rule (new_app name) (flag (codes "explain"))
 
--- `serve` requires the file of a description
-abbrev pub serve_subcommand : App
-serve_subcommand =
+-- what serves a device requires the file of its description, and may log the line
+abbrev pub serving_subcommand : App
+serving_subcommand =
     with_rule (with_rule (with_rule (new_app (codes "serve"))
     (record (value_option (codes "device")) { required = true }))
     (value_option (codes "log"))) (flag (codes "verbose"))
+
+-- `serve`, with the faults of the line, and whether the description is explained
+abbrev pub serve_subcommand : App
+serve_subcommand = with_rule (with_rule serving_subcommand (value_option (codes "faults"))) (flag (codes "explain"))
 
 -- the subcommands that simulate a device over a text
 abbrev pub device_command : App
@@ -87,7 +91,8 @@ timed_subcommand name =
 
 -- and the file of its state
 abbrev pub stated_subcommand : List ℕ → App
-stated_subcommand name = with_rule (timed_subcommand name) (value_option (codes "state"))
+stated_subcommand name =
+    with_rule (with_rule (timed_subcommand name) (value_option (codes "state"))) (flag (codes "no-state"))
 
 abbrev pub one_or_more : ValueRange
 one_or_more = record { start_inclusive = 1; end_inclusive = usize_max }
@@ -122,8 +127,12 @@ watch_subcommand =
     with_rule (with_rule (with_rule (stated_subcommand (codes "watch")) (value_option (codes "every")))
     (value_option (codes "count"))) (value_option (codes "log"))
 
+abbrev pub watching_command : App
+watching_command = with_subcommand walking_command watch_subcommand.top
+
+-- `assign` gives the device its endpoint ID
 abbrev pub command : App
-command = with_subcommand walking_command watch_subcommand.top
+command = with_subcommand watching_command (stated_subcommand (codes "assign")).top
 
 -- whether `clap` takes the words, of which the first is the program's name
 abbrev pub takes_line : List (List ℕ) → Bool
@@ -147,11 +156,14 @@ binding_named name =
 abbrev pub is_given : List ℕ → List Row → Bool
 is_given name rows = option_map_or (λ text. bytes_eq text (codes "true")) (first_of name rows) false
 
--- a device that is served: the names of its files, and whether drops are named
+-- a device that is served: the names of its files, whether drops are named, the faults of its line as they are spelled,
+-- and whether its description is explained
 pub record Served : Type 0 where
   pub device : List ℕ
   pub log : Option (List ℕ)
   pub verbose : Bool
+  pub faults : Option (List ℕ)
+  pub explain : Bool
 
 -- who asks whom on which line, and when again: the words of the line, with the numbers as they are spelled
 pub record Linked : Type 0 where
@@ -162,6 +174,7 @@ pub record Linked : Type 0 where
   pub timeout : Option (List ℕ)
   pub tries : Option (List ℕ)
   pub state : Option (List ℕ)
+  pub no_state : Bool
 
 -- what a device is asked
 pub record Questioned : Type 0 where
@@ -190,11 +203,17 @@ pub data Asked : Type 0 where
   to_ask : Questioned → Asked
   to_walk : WalkAsked → Asked
   to_watch : Watched → Asked
+  to_assign : Linked → Asked
 
 -- what a value of the code asks for
 abbrev pub served : ServeOptions → Served
-served service =
-    record { device = service.device.now; log = option_map (λ file. file.now) service.log; verbose = service.verbose }
+served service = record {
+  device = service.device.now;
+  log = option_map (λ file. file.now) service.log;
+  verbose = service.verbose;
+  faults = option_map (λ text. text.now) service.faults;
+  explain = service.explain;
+}
 
 abbrev pub linked : LineOptions → Linked
 linked l = record {
@@ -205,6 +224,7 @@ linked l = record {
   timeout = option_map (λ text. text.now) l.timeout;
   tries = option_map (λ text. text.now) l.tries;
   state = option_map (λ text. text.now) l.state;
+  no_state = l.no_state;
 }
 
 abbrev pub questioned : AskOptions → Questioned
@@ -232,6 +252,7 @@ asked (choice.Serve service) = to_serve (served service)
 asked (choice.Ask question) = to_ask (questioned question)
 asked (choice.Walk options) = to_walk (walk_options options)
 asked (choice.Watch options) = to_watch (watch_options options)
+asked (choice.Assign link) = to_assign (linked link)
 
 -- what is asked for by what was found of the arguments of `serve`
 abbrev pub service_in : List Row → Option Served
@@ -241,6 +262,8 @@ service_in rows =
       device = device;
       log = first_of (codes "log") rows;
       verbose = is_given (codes "verbose") rows;
+      faults = first_of (codes "faults") rows;
+      explain = is_given (codes "explain") rows;
     })
     (first_of (codes "device") rows)
 
@@ -259,6 +282,7 @@ link_in rows =
       timeout = first_of (codes "timeout") rows;
       tries = first_of (codes "tries") rows;
       state = first_of (codes "state") rows;
+      no_state = is_given (codes "no-state") rows;
     }) (first_of (codes "device") rows)) (first_of (codes "own") rows)
 
 -- what is asked for by what was found of the arguments of `ask`
@@ -273,7 +297,8 @@ question_in rows =
 
 -- and of `walk`
 abbrev pub walk_options_in : List Row → Option WalkAsked
-walk_options_in rows = option_map (λ link. record { link = link; records = first_of (codes "records") rows }) (link_in rows)
+walk_options_in rows =
+    option_map (λ link. record { link = link; records = first_of (codes "records") rows }) (link_in rows)
 
 -- and of `watch`
 abbrev pub watch_options_in : List Row → Option Watched
@@ -313,6 +338,7 @@ choice_in found =
     else if bytes_eq found.0 (codes "ask") then option_map to_ask (question_in found.1)
     else if bytes_eq found.0 (codes "walk") then option_map to_walk (walk_options_in found.1)
     else if bytes_eq found.0 (codes "watch") then option_map to_watch (watch_options_in found.1)
+    else if bytes_eq found.0 (codes "assign") then option_map to_assign (link_in found.1)
     else option_map to_perform (text_task_in found)
 
 -- what a line that is taken asks for

@@ -4,12 +4,12 @@ ghost use Rattle.std.specs.Prelude.{◌≡◌, IfOk, IfErr, Some, false, map, op
 ghost use Rattle.mctp_packet.specs.Memories.{out_of_memory};
 ghost use Rattle.clap.specs.Words.{app_of, first_of, found_of, kind_of, rows_of, rule_of, subcommand_rows_of};
 ghost use Rattle.mctpctl_command_line.specs.FaultNumbers.{number_of_choose_fault};
-ghost use Rattle.mctpctl_command_line.specs.Choice.{ask_subcommand as the_ask_subcommand, asked, asking_command as the_asking_command, binding_in, binding_named, choice_in as the_choice, choice_of, command as the_command, command_words as the_command_words, device_command as the_device_command, flag as the_flag, has_globals, is_given, line_command as the_line_command, line_subcommand as the_line_subcommand, link_in, linked, program as the_program, question_in, questioned, serve_subcommand as the_serve_subcommand, served, service_in, show_subcommand as the_show_subcommand, stated_subcommand as the_stated_subcommand, walk_options_in, walk_options, task_named, text_command as the_text_command, text_subcommand as the_text_subcommand, text_task_in, timed_subcommand as the_timed_subcommand, value_option as the_value_option, values_given, watch_options_in, watch_options, walk_subcommand as the_walk_subcommand, walking_command as the_walking_command, watch_subcommand as the_watch_subcommand, ReportsKind, ReportsRefusal};
+ghost use Rattle.mctpctl_command_line.specs.Choice.{ask_subcommand as the_ask_subcommand, asked, asking_command as the_asking_command, binding_in, binding_named, choice_in as the_choice, choice_of, command as the_command, command_words as the_command_words, device_command as the_device_command, flag as the_flag, has_globals, is_given, line_command as the_line_command, line_subcommand as the_line_subcommand, link_in, linked, program as the_program, question_in, questioned, serve_subcommand as the_serve_subcommand, serving_subcommand as the_serving_subcommand, served, service_in, show_subcommand as the_show_subcommand, stated_subcommand as the_stated_subcommand, walk_options_in, walk_options, task_named, text_command as the_text_command, text_subcommand as the_text_subcommand, text_task_in, timed_subcommand as the_timed_subcommand, value_option as the_value_option, values_given, watch_options_in, watch_options, walk_subcommand as the_walk_subcommand, walking_command as the_walking_command, watch_subcommand as the_watch_subcommand, watching_command as the_watching_command, ReportsKind, ReportsRefusal};
 
 use crate::help::{
-    ANSWER, ASK, ASKED, BINDING, BINDINGS, COMMAND, COMMANDS, COUNT, DECODE, DEVICE, EVERY,
-    EXPLAIN, HEX, KEEP, LINE, LOG, NO_BINDING, OWN, READINGS, RECORDS, RUN, SERVE, SHOW, STATE,
-    STATUSES, TIMEOUT, TRIES, VERBOSE, VERSION, WALK, WATCH,
+    ANSWER, ASK, ASKED, ASSIGN, BINDING, BINDINGS, COMMAND, COMMANDS, COUNT, DECODE, DEVICE, EVERY,
+    EXPLAIN, FAULTS, HEX, KEEP, LINE, LOG, NO_BINDING, NO_STATE, OWN, READINGS, RECORDS, RUN,
+    SERVE, SHOW, STATE, STATUSES, TIMEOUT, TRIES, VERBOSE, VERSION, WALK, WATCH,
 };
 use clap::error::ErrorKind;
 use clap::{Arg, ArgAction, ArgMatches, Command};
@@ -31,6 +31,8 @@ pub enum Choice<'a> {
     Walk(WalkOptions<'a>),
     /// What the sensors and effecters of a device on a serial line say, again and again.
     Watch(WatchOptions<'a>),
+    /// The endpoint ID of the device at the other end of a serial line: it is given that of these options.
+    Assign(LineOptions<'a>),
 }
 
 /// What is done with a text.
@@ -66,6 +68,10 @@ pub struct ServeOptions<'a> {
     pub log: Option<&'a str>,
     /// Whether drops are named on standard error (`--verbose`).
     pub verbose: bool,
+    /// The faults of the line (`--faults`), as they are spelled.
+    pub faults: Option<&'a str>,
+    /// Whether a refused description is explained, and warned of what is ignored in it (`--explain`).
+    pub explain: bool,
 }
 
 /// Who asks whom on which line, and when again: the numbers as they are spelled.
@@ -83,8 +89,10 @@ pub struct LineOptions<'a> {
     pub timeout: Option<&'a str>,
     /// How many tries there are (`--tries`).
     pub tries: Option<&'a str>,
-    /// The file that keeps when the device was asked last (`--state`).
+    /// The file that keeps when requests were opened (`--state`).
     pub state: Option<&'a str>,
+    /// Whether no such file is kept (`--no-state`).
+    pub no_state: bool,
 }
 
 /// What a device is asked.
@@ -178,6 +186,16 @@ pub fn choose<'a>(alloc: Global, words: &'a [&'a str]) -> Result<Choice<'a>, Cho
 fn command<'a>(alloc: Global) -> Result<Command<'a>, AllocError>
     ensures { IfOk result (λ command. app_of command ≡ the_command) }
 {
+    let assign = stated_subcommand(alloc, "assign")?
+        .about("Gives the device at the other end of a serial line an endpoint ID")
+        .after_help(ASSIGN);
+    watching_command(alloc)?.subcommand(assign)
+}
+
+/// The program with the subcommands that simulate a device, with `ask`, `walk` and `watch`.
+fn watching_command<'a>(alloc: Global) -> Result<Command<'a>, AllocError>
+    ensures { IfOk result (λ command. app_of command ≡ the_watching_command) }
+{
     let watch = watch_subcommand(alloc)?
         .about("Reads the sensors and effecters of a device on a serial line again and again")
         .after_help(WATCH);
@@ -260,6 +278,16 @@ fn serve_subcommand<'a>(alloc: Global) -> Result<Command<'a>, AllocError>
     ensures app { IfOk result (λ command. app_of command ≡ the_serve_subcommand) }
     ensures local { IfOk result (λ command. has_globals command ≡ false) }
 {
+    serving_subcommand(alloc)?
+        .arg(value_option(alloc, "faults", "FAULTS", FAULTS))?
+        .arg(flag(alloc, "explain", EXPLAIN))
+}
+
+/// The subcommand `serve`, with the options of its device and its log.
+fn serving_subcommand<'a>(alloc: Global) -> Result<Command<'a>, AllocError>
+    ensures app { IfOk result (λ command. app_of command ≡ the_serving_subcommand) }
+    ensures local { IfOk result (λ command. has_globals command ≡ false) }
+{
     let device = value_option(alloc, "device", "FILE", DEVICE).required(true);
     Command::new(alloc, "serve")
         .arg(device)?
@@ -302,7 +330,9 @@ fn stated_subcommand<'a>(alloc: Global, name: &'static str) -> Result<Command<'a
     ensures app { IfOk result (λ command. app_of command ≡ the_stated_subcommand name.now) }
     ensures local { IfOk result (λ command. has_globals command ≡ false) }
 {
-    timed_subcommand(alloc, name)?.arg(value_option(alloc, "state", "FILE", STATE))
+    timed_subcommand(alloc, name)?
+        .arg(value_option(alloc, "state", "FILE", STATE))?
+        .arg(flag(alloc, "no-state", NO_STATE))
 }
 
 /// A subcommand of this name, with the options of a line and of time.
@@ -399,6 +429,7 @@ fn choice_for<'a>(name: &str, matches: &ArgMatches<'a>) -> Option<Choice<'a>>
         "ask" => Some(Choice::Ask(question_of(matches)?)),
         "walk" => Some(Choice::Walk(walk_options_of(matches)?)),
         "watch" => Some(Choice::Watch(watch_options_of(matches)?)),
+        "assign" => Some(Choice::Assign(link_of(matches)?)),
         _ => Some(Choice::Text(text_task(name, matches)?)),
     }
 }
@@ -451,6 +482,8 @@ fn service_of<'a>(matches: &ArgMatches<'a>) -> Option<ServeOptions<'a>>
         device,
         log: value(matches, "log"),
         verbose: is_given(matches, "verbose"),
+        faults: value(matches, "faults"),
+        explain: is_given(matches, "explain"),
     })
 }
 
@@ -505,6 +538,7 @@ fn link_of<'a>(matches: &ArgMatches<'a>) -> Option<LineOptions<'a>>
         timeout: value(matches, "timeout"),
         tries: value(matches, "tries"),
         state: value(matches, "state"),
+        no_state: is_given(matches, "no-state"),
     })
 }
 

@@ -33,6 +33,12 @@ pub const LOG: &str = "Write the packets that come and those that are sent to th
 /// What `--verbose` does.
 pub const VERBOSE: &str = "Say on standard error what is dropped, and why";
 
+/// What `--faults` does.
+pub const FAULTS: &str = "SEED,LOSE,REPEAT,DELAY: lose, repeat and delay frames, both ways";
+
+/// What is said before the reason where `--faults` has another value.
+pub const NO_FAULTS: &str = "error: invalid value for '--faults <FAULTS>': ";
+
 /// What `--line` names.
 pub const LINE: &str = "The terminal to ask on; standard input and output where none is named";
 
@@ -55,7 +61,11 @@ pub const TRIES: &str = "How often a request is sent at most, 1 to 8 [default: 3
 pub const HEX: &str = "Print answers as bytes in hex";
 
 /// What `--state` names.
-pub const STATE: &str = "Keep in this file when the device was asked last, and wait less";
+pub const STATE: &str =
+    "Keep in this file when requests were opened [default: one for each line and device]";
+
+/// What `--no-state` does.
+pub const NO_STATE: &str = "Keep nothing, and wait until earlier requests can have no answer";
 
 /// What `--records` names.
 pub const RECORDS: &str = "Write the records of the device to this file, as they were read";
@@ -194,6 +204,9 @@ the device at address 10 to the one at 1d, is in the frame
 
   0 3a0f0921010908c801800002ca
 
+On a terminal what was dropped is red and, with --decode, a reading yellow that differs
+from the one before. There are no colours where NO_COLOR is set, or TERM is dumb.
+
 Exit status:
   0  done
   1  the input was refused: one line on standard error says why
@@ -219,8 +232,13 @@ line is a terminal, that has to be raw:
   stty -F /dev/ttyS1 raw -echo
   mctpctl serve --device device.toml < /dev/ttyS1 > /dev/ttyS1
 
+With --faults 7,10,20,50 the line loses 10 percent of the frames, both of those that come
+and of those that go out. Of the others 20 percent come twice, and each comes up to 50
+milliseconds late. The seed, here 7, chooses which: the same seed and frames have the same
+faults. A delayed frame holds up those after it. Bytes that are no frame are lost.
+
 Exit status:
-  0  the input has ended
+  0  the input has ended; that a terminal hung up is said on standard error
   1  the description was refused: one line on standard error says why
   2  the command line was refused
   3  a file, a read, a write or the clock failed, or there was no memory";
@@ -228,8 +246,8 @@ Exit status:
 /// What `ask` reads and writes.
 pub const ASK: &str = "\
 A command is sent to the device in frames of DSP0253, again after each timeout, until an
-answer to it has come or all tries have had their time. Where the line is a terminal, it
-has to be raw, and its reads have to end after a tenth of a second:
+answer to it has come or all tries have had their time. The line is a terminal that no
+other program holds. It has to be raw, and its reads have to end after a tenth of a second:
 
   stty -F /dev/ttyS1 raw -echo min 0 time 1
   mctpctl ask --line /dev/ttyS1 --own 8 --device 9 gettid
@@ -245,17 +263,21 @@ error:
 
     response 0 GetTID tid 1
 
-Instance IDs begin at 0 each time. So twice the keeping time passes first, and what comes
-then is dropped: an answer to an earlier request is none to a new one. Where the device
-keeps its answers for less time, --keep 1000 --timeout 300 makes that two seconds. With
---state FILE, a file for each device and --own, the time since the last 'ask' counts.
+An instance ID is used again after twice the keeping time. When requests were opened is
+kept in a file for each line, --own and --device, in $XDG_STATE_HOME/mctpctl or
+~/.local/state/mctpctl, or in --state FILE, so that the next run goes on at once. Where
+nothing is known of earlier requests, as after a start of the system or with --no-state,
+that time passes first, and what comes then is dropped: an answer to an earlier request
+is none to a new one. Where the device keeps its answers for less time, --keep 1000
+--timeout 300 makes that two seconds.
 
 Exit status, the greatest where there are several commands:
   0  the answer has the completion code SUCCESS
   1  it has another one
   2  the command line was refused, or a line of the file
   3  no answer came in the tries, or the line ended; or a file, a read, a write or the
-     clock failed, or there was no memory. One line on standard error says which";
+     clock failed, or there was no memory. One line on standard error says which; none
+     where nobody reads the output";
 
 /// What `walk` reads and writes.
 pub const WALK: &str = "\
@@ -263,16 +285,18 @@ The device is asked what a management controller asks that has found it: its end
 UUID and message types, by control messages; its terminus ID and PLDM types, the versions
 and commands of each type, how many records its repository has, each record, and the
 reading, value or states of each sensor and effecter that a record describes. Nothing is
-set. The line, the endpoint IDs, the times and --state are those of 'ask'. As an instance
+set. The line, the endpoint IDs, the times and the state are those of 'ask'. As an instance
 ID is used again after twice the keeping time, 32 commands are asked in that time at most:
 
   stty -F /dev/ttyS1 raw -echo min 0 time 1
   mctpctl walk --line /dev/ttyS1 --own 8 --device 9
 
-Output: the answers as they come, as 'show --decode' writes them, and at the end a table.
-What was not answered, or refused, is passed over, with what depends on it:
+Output: the answers as they come, with what was asked, and at the end a table. What was
+refused is passed over, with what depends on it. The first command without an answer is
+the last one:
 
     response 0 GetTID tid 1
+    response 9 GetSensorReading sensor 1 uint16 reading 4200 normal previous normal ..
 
   sensor 1    Fan        4200 rpm  normal
   effecter 1  Fan speed  40 %      enabled-noUpdatePending
@@ -284,33 +308,55 @@ Exit status, the greatest of all commands:
   1  it has another one
   2  the command line was refused
   3  no answer came in the tries, or the line ended; or a file, a read, a write or the
-     clock failed, or there was no memory. One line on standard error says which";
+     clock failed, or there was no memory. One line on standard error says which; none
+     where nobody reads the output";
+
+/// What `assign` sends and prints.
+pub const ASSIGN: &str = "\
+The device at the other end of the line is given the endpoint ID of --device by Set Endpoint
+ID (DSP0236). The request goes to the null endpoint ID, so it reaches a device that has none
+yet, and one that has another. It is sent again up to --tries times; a copy changes nothing.
+The line, the endpoint IDs, the times and the state are those of 'ask':
+
+  mctpctl assign --line /dev/ttyS1 --own 8 --device 9
+
+Output: the answer, with whether the endpoint ID was taken and which one the device has.
+
+Exit status:
+  0  the device has the endpoint ID
+  1  it was not taken, or the completion code is not SUCCESS
+  2  the command line was refused
+  3  no answer came in the tries, or the line ended; or a file, a read, a write or the
+     clock failed, or there was no memory. One line on standard error says which; none
+     where nobody reads the output";
 
 /// What `watch` reads and writes.
 pub const WATCH: &str = "\
 The device is asked for its records as by 'walk', with nothing printed. Then, in each
 period, each sensor and effecter that a record describes is asked for its reading, value
-or states. Nothing is set. The line, the endpoint IDs, the times and --state are those of
-'ask'. A period lasts longer where 32 commands in twice the keeping time are not enough:
+or states. Nothing is set. The line, the endpoint IDs, the times and the state are those of
+'ask'. A row without an answer says so, and the next one is asked. A period lasts longer
+where 32 commands in twice the keeping time are not enough:
 
   stty -F /dev/ttyS1 raw -echo min 0 time 1
   mctpctl watch --line /dev/ttyS1 --own 8 --device 9 --every 500 --log readings.csv
 
 Output: for each period its moment, in milliseconds since the start, the table of 'walk',
 and a blank line. A row whose value or state is another than in the period before begins
-with '*':
+with '*', and has a colour on a terminal, unless NO_COLOR is set:
 
   12500 ms
   * sensor 1    Fan        4260 rpm  normal
     effecter 1  Fan speed  40 %      enabled-noUpdatePending
 
-A --log file gets a line for each row: the moment, what it is of, and its value:
+A --log file gets a line for each row: the moment, what it is of, its name and its value:
 
-  12500,sensor 1,\"4260 rpm\"
+  12500,sensor 1,\"Fan\",\"4260 rpm\"
 
 Exit status, the greatest of all commands:
   0  the answer has the completion code SUCCESS
   1  it has another one
   2  the command line was refused
   3  no answer came in the tries, or the line ended; or a file, a read, a write or the
-     clock failed, or there was no memory. One line on standard error says which";
+     clock failed, or there was no memory. One line on standard error says which; none
+     where nobody reads the output";

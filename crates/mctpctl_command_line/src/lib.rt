@@ -8,4 +8,4 @@ pub use choice::{
     AskOptions, Choice, ChooseFault, LineOptions, ServeOptions, Task, TextTask, WalkOptions,
     WatchOptions, choose,
 };
-pub use help::{NO_COMMAND, TRY_HELP};
+pub use help::{NO_COMMAND, NO_FAULTS, TRY_HELP};

@@ -1,5 +1,9 @@
 -- The fields of an answer by name, as DSP0240 and DSP0248 name them.
-use Rattle.std.specs.Prelude.{ℕ, List, [], ◌∷◌, ◌++◌, length, codes, Option, None, Some}
+use Rattle.std.specs.Prelude.{ℕ, ◌-◌, ◌==◌, nat_lt, Bool, ◌&&◌, if◌then◌else◌, List, [], ◌∷◌, ◌++◌, length, take, drop}
+use Rattle.std.specs.Prelude.{codes, Option, None, Some}
+use Rattle.byteorder.specs.Endian.{little_number}
+use Rattle.pldm_wire.specs.Crc32.{crc32}
+use Rattle.pldm_wire.specs.declared.limits.TheConstants.{VERSION_BYTES}
 use Rattle.std.specs.List.{flat_map}
 use Rattle.mctpctl_decode.specs.CodeNames.{code_name}
 use Rattle.mctpctl_decode.specs.FieldTexts.{bits_from, code_word, field, hex_field, named, signed_field, word}
@@ -86,12 +90,25 @@ part_of_record_text part =
     word (transfer_text part.flag) ++ field (codes "count") (length part.bytes) ++ hex_field (codes "data") part.bytes
     ++ checksum_text part.transfer_crc
 
+-- whether four bytes are the checksum of some before them
+abbrev pub is_checksum_of : List ℕ → List ℕ → Bool
+is_checksum_of last front =
+    nat_lt 0 (length front) && (length last == VERSION_BYTES) && (little_number 4 last == crc32 front)
+
+-- versions, and their checksum apart
+abbrev pub versions_text : List ℕ → List ℕ
+versions_text versions =
+    let count = length versions - VERSION_BYTES in
+    if is_checksum_of (drop count versions) (take count versions)
+    then hex_field (codes "versions") (take count versions) ++ hex_field (codes "crc32") (drop count versions)
+    else hex_field (codes "versions") versions
+
 -- the fields of an answer to a command of this kind, a space before each
 abbrev pub answer_text : TypeAndCommand → Answer → List ℕ
 answer_text kind (Refused code) = refused_text kind code
 answer_text kind SetTid = word (codes "SUCCESS")
 answer_text kind (GetTid tid) = field (codes "tid") tid
-answer_text kind (GetPldmVersion next versions) = hex_field (codes "versions") versions ++ field (codes "next") next
+answer_text kind (GetPldmVersion next versions) = versions_text versions ++ field (codes "next") next
 answer_text kind (GetPldmTypes types) = word (codes "types") ++ bits_from 0 types
 answer_text kind (GetPldmCommands commands) = word (codes "commands") ++ bits_from 0 commands
 answer_text kind (GetSensorReading operational enable present previous event reading) =

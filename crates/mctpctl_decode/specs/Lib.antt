@@ -1,4 +1,5 @@
 pub mod AnswerTexts
+pub mod AnswersToCommands
 pub mod CodeNames
 pub mod CommandTexts
 pub mod ControlNames

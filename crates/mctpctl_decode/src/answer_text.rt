@@ -2,7 +2,7 @@
 
 ghost use Rattle.std.specs.Prelude.{◌≡◌, ◌++◌, OnOk};
 ghost use Rattle.std.specs.List.{flat_map};
-ghost use Rattle.mctpctl_decode.specs.AnswerTexts.{answer_text, effecter_field_text, effecter_operation_text, part_of_record_text, reading_text, refused_text, sensor_field_text, operation_text, sized_text, sizes_text, state_field, transfer_text, values_text};
+ghost use Rattle.mctpctl_decode.specs.AnswerTexts.{answer_text, effecter_field_text, effecter_operation_text, is_checksum_of, part_of_record_text, reading_text, refused_text, sensor_field_text, operation_text, sized_text, sizes_text, state_field, transfer_text, values_text, versions_text};
 
 use crate::code_names::code_name;
 use crate::field_text::{
@@ -12,10 +12,11 @@ use crate::state_names::{
     effecter_state_name, events_name, repository_state_name, sensor_operation_name,
     sensor_state_name,
 };
+use byteorder::{ByteOrder, LittleEndian};
 use mctp_packet::Memory;
 use pldm_wire::{
     Answer, Code, EffecterStateField, EffecterValues, Kind, Number, RecordPart, SensorStateField,
-    TransferFlag,
+    TransferFlag, VERSION_BYTES, crc32,
 };
 
 /// Adds the fields of an answer to a command of this type and number, as DSP0240 and DSP0248 name them.
@@ -32,7 +33,7 @@ pub fn push_answer(out: &mut Vec<u8>, kind: Kind, answer: &Answer) -> Result<(),
             next_data_transfer_handle,
             versions,
         } => {
-            push_hex_field(out, "versions", versions.as_slice())?;
+            push_versions(out, versions.as_slice())?;
             push_field(out, "next", (*next_data_transfer_handle).into())
         }
         Answer::GetPldmTypes { types } => {
@@ -86,6 +87,27 @@ pub fn push_answer(out: &mut Vec<u8>, kind: Kind, answer: &Answer) -> Result<(),
             push_part(out, part)
         }
     }
+}
+
+/// Adds versions, and their checksum apart, where the last four bytes are that of the ones before them (DSP0240,
+/// "GetPLDMVersion command").
+fn push_versions(out: &mut Vec<u8>, versions: &[u8]) -> Result<(), Memory>
+    ensures { OnOk result (out.new.items ≡ out.old.items ++ versions_text versions.now) }
+{
+    let (front, last) = versions.split_at(versions.len().saturating_sub(VERSION_BYTES));
+    if is_checksum_of(last, front) {
+        push_hex_field(out, "versions", front)?;
+        push_hex_field(out, "crc32", last)
+    } else {
+        push_hex_field(out, "versions", versions)
+    }
+}
+
+/// Whether four bytes are the checksum of some before them.
+fn is_checksum_of(last: &[u8], front: &[u8]) -> bool
+    ensures { result ≡ is_checksum_of last.now front.now }
+{
+    !front.is_empty() && last.len() == VERSION_BYTES && LittleEndian::read_u32(last) == crc32(front)
 }
 
 /// Adds a refusal by its completion code.

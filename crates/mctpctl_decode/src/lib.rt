@@ -2,6 +2,7 @@
 #![tactic(auto)]
 
 mod answer_text;
+mod answer_to_command;
 mod code_names;
 mod command_text;
 mod control_line;
@@ -26,6 +27,7 @@ mod transfer;
 mod transfers;
 mod unit_names;
 
+pub use answer_to_command::push_answer_to;
 pub use code_names::code_name;
 pub use decode::{ByName, decode_all};
 pub use field_text::push_code;

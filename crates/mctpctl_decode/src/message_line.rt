@@ -108,7 +108,7 @@ fn push_answer_line(
 }
 
 /// Adds what a message is, its instance ID, and its command.
-fn push_subject(out: &mut Vec<u8>, what: &str, id: u8, kind: Kind) -> Result<(), Memory>
+pub(crate) fn push_subject(out: &mut Vec<u8>, what: &str, id: u8, kind: Kind) -> Result<(), Memory>
     ensures { OnOk result (out.new.items ≡ out.old.items ++ subject_text what.now id kind) }
 {
     write_text(out, what)?;

@@ -21,3 +21,8 @@ abbrev pub SaysExpected : List ℕ → List ℕ → Type 0
 SaysExpected [] text = (rest : List ℕ) × (text ≡ codes "expected " ++ rest)
 SaysExpected (byte ∷ more) text =
     (found : List ℕ) × (rest : List ℕ) × IsQuoted found × (text ≡ found ++ (codes ": expected " ++ rest))
+
+-- the word, between quotes, and what it is
+abbrev pub SaysMisplaced : List ℕ → Type 0
+SaysMisplaced text =
+    (option : List ℕ) × IsQuoted option × (text ≡ option ++ codes " is an option, and options stand before the command")

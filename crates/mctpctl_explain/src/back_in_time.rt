@@ -43,7 +43,7 @@ fn last_moment(alloc: Global, subject: Subcommand, lines: &[u8]) -> Result<u64, 
 fn moment_word<'a>(subject: Subcommand, words: &[&'a [u8]]) -> Option<&'a [u8]> {
     match (subject, words) {
         (Subcommand::Run, [b"at", moment, ..]) => Some(*moment),
-        (Subcommand::Answer | Subcommand::Show, [moment, ..]) => Some(*moment),
+        (Subcommand::Answer | Subcommand::Show | Subcommand::Serve, [moment, ..]) => Some(*moment),
         _ => None,
     }
 }

@@ -1,7 +1,7 @@
 //! What may stand at a place of a line, in words.
 
 ghost use Rattle.std.specs.Prelude.{IfOk, string_bytes};
-ghost use Rattle.mctpctl_explain.specs.AllowedWords.{SaysExpected};
+ghost use Rattle.mctpctl_explain.specs.AllowedWords.{SaysExpected, SaysMisplaced};
 
 use crate::quote::quoted;
 use crate::suggest::{choice, suggestion};
@@ -56,6 +56,18 @@ pub fn refused_text(alloc: Global, found: &[u8], expected: Expected) -> Result<S
     let hint = suggestion(alloc, found, known_words(expected))?;
     let found = quoted(alloc, found)?;
     Ok(format!(in alloc; "{found}: expected {what}{hint}")?)
+}
+
+/// What is wrong with an option that stands among the words of a command. What stands between the quotes is tested.
+///
+/// # Errors
+///
+/// `Memory` where a growth was refused.
+pub fn misplaced_option_text(alloc: Global, option: &[u8]) -> Result<String, Memory>
+    ensures { IfOk result (λ text. SaysMisplaced (string_bytes text)) }
+{
+    let option = quoted(alloc, option)?;
+    Ok(format!(in alloc; "{option} is an option, and options stand before the command")?)
 }
 
 /// What may stand there, in words.

@@ -23,6 +23,8 @@ pub enum Subcommand {
     Run,
     /// That of `show`: a capture.
     Show,
+    /// That of `serve`: a description alone, of which all is.
+    Serve,
 }
 
 /// Says more of a fault that an engine returned for an input, of which this is what was read, up to
@@ -42,7 +44,7 @@ pub fn explain(
     match fault {
         EngineFault::Read | EngineFault::Write | EngineFault::Memory(_) => Ok(String::new(alloc)),
         EngineFault::Device(fault) => match fault.refusal() {
-            Some(refusal) => explain_description(alloc, description_in(input), refusal),
+            Some(refusal) => { explain_description(alloc, description_in(subject, input), refusal) }
             None => Ok(String::new(alloc)),
         },
         EngineFault::NoDivider => no_divider(alloc, subject),
@@ -52,17 +54,17 @@ pub fn explain(
     }
 }
 
-/// The description of an input; all of it where no line divides.
-fn description_in(input: &[u8]) -> &[u8] {
-    match Divided::new(input) {
-        Some(divided) => divided.description,
-        None => input,
+/// The description of an input; all of it where no line divides, or none does in such an input.
+fn description_in(subject: Subcommand, input: &[u8]) -> &[u8] {
+    match (subject, Divided::new(input)) {
+        (Subcommand::Serve, _) | (_, None) => input,
+        (_, Some(divided)) => divided.description,
     }
 }
 
 fn no_divider(alloc: Global, subject: Subcommand) -> Result<String, Memory> {
     let what = match subject {
-        Subcommand::Answer | Subcommand::Show => "capture",
+        Subcommand::Answer | Subcommand::Show | Subcommand::Serve => "capture",
         Subcommand::Run => "schedule",
     };
     Ok(format!(in alloc; "expected a line '%%' between the description and the {what}")?)
@@ -128,7 +130,9 @@ fn line_reason(
     match (kind, subject) {
         (LineKind::BackInTime, _) => back_in_time::reason_of(alloc, subject, line, before),
         (_, Subcommand::Run) => schedule_line::reason_of(alloc, line, kind),
-        (_, Subcommand::Answer | Subcommand::Show) => capture_line::reason_of(alloc, line, kind),
+        (_, Subcommand::Answer | Subcommand::Show | Subcommand::Serve) => {
+            capture_line::reason_of(alloc, line, kind)
+        }
     }
 }
 
@@ -150,7 +154,10 @@ fn explain_requester(
 
 /// Says which limit was passed.
 fn too_large(alloc: Global, subject: Subcommand, input: &[u8]) -> Result<String, Memory> {
-    if subject != Subcommand::Show && description_in(input).len() > MAX_DESCRIPTION {
+    if subject == Subcommand::Serve {
+        return Ok(format!(in alloc; "the description has more than {MAX_DESCRIPTION} bytes")?);
+    }
+    if subject != Subcommand::Show && description_in(subject, input).len() > MAX_DESCRIPTION {
         return Ok(format!(in alloc;
             "the description before the line '%%' has more than {MAX_DESCRIPTION} bytes"
         )?);

@@ -2,7 +2,7 @@
 
 use crate::explanation::Subcommand;
 use crate::input_warnings::MAX_WARNINGS;
-use crate::known_keys::{LISTS, RECORDS_KEYS, TOP_KEYS, entry_keys};
+use crate::known_keys::{CONTROL_KEYS, LISTS, RECORDS_KEYS, SERVED_KEYS, TOP_KEYS, entry_keys};
 use crate::paths::path_text;
 use crate::places::Places;
 use crate::quote::quoted;
@@ -25,16 +25,16 @@ pub(crate) fn ignored_keys(
         Err(_) => return Ok(()),
     };
     let places = Places::read(alloc, description)?;
-    warn_of_keys(alloc, &places, &table, Path::whole(), &TOP_KEYS, found)?;
+    if subject == Subcommand::Serve {
+        warn_of_keys(alloc, &places, &table, Path::whole(), &SERVED_KEYS, found)?;
+        unknown_in_table(alloc, &places, &table, "control", &CONTROL_KEYS, found)?;
+    } else {
+        warn_of_keys(alloc, &places, &table, Path::whole(), &TOP_KEYS, found)?;
+    }
     if subject == Subcommand::Run && sets_alone(&table) {
         warn_of_busy_time(alloc, &places, found)?;
     }
-    if let Some(value) = table.get("records")
-        && let Some(records) = value.as_table()
-    {
-        let path = Path::table("records");
-        warn_of_keys(alloc, &places, records, path, &RECORDS_KEYS, found)?;
-    }
+    unknown_in_table(alloc, &places, &table, "records", &RECORDS_KEYS, found)?;
     for list in LISTS.iter() {
         if let Some(value) = table.get(*list)
             && let Some(entries) = value.as_array()
@@ -66,6 +66,24 @@ fn warn_of_busy_time(
         )?)?;
     }
     Ok(())
+}
+
+/// The keys of a table of the description that are ignored: those that are none of the known ones.
+fn unknown_in_table(
+    alloc: Global,
+    places: &Places<'_>,
+    description: &Table,
+    name: &'static str,
+    known: &[&str],
+    found: &mut Vec<String>,
+) -> Result<(), Memory> {
+    let Some(value) = description.get(name) else {
+        return Ok(());
+    };
+    match value.as_table() {
+        Some(table) => warn_of_keys(alloc, places, table, Path::table(name), known, found),
+        None => Ok(()),
+    }
 }
 
 /// The keys of the entries of a list that are ignored.

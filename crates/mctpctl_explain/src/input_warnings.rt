@@ -27,6 +27,10 @@ fn all_warnings(alloc: Global, subject: Subcommand, input: &[u8]) -> Result<Vec<
     let mut found = Vec::new(alloc);
     let (lines, lines_before) = match subject {
         Subcommand::Show => (input, 0),
+        Subcommand::Serve => {
+            ignored_keys(alloc, subject, input, &mut found)?;
+            return Ok(found);
+        }
         Subcommand::Answer | Subcommand::Run => match Divided::new(input) {
             Some(divided) => {
                 ignored_keys(alloc, subject, divided.description, &mut found)?;

@@ -20,6 +20,36 @@ pub(crate) const TOP_KEYS: [&str; 16] = [
     "records",
 ];
 
+/// The keys of the whole description where a device is served: the table `control` among them.
+pub(crate) const SERVED_KEYS: [&str; 17] = [
+    "eid",
+    "keep_ms",
+    "window",
+    "busy",
+    "tid",
+    "version0",
+    "version2",
+    "version_checksum",
+    "update_time",
+    "oem_update_time",
+    "numeric_sensor",
+    "state_sensor",
+    "numeric_effecter",
+    "state_effecter",
+    "pdr",
+    "records",
+    "control",
+];
+
+/// The keys of the table `control`.
+pub(crate) const CONTROL_KEYS: [&str; 5] = [
+    "uuid",
+    "base_version",
+    "control_version",
+    "pldm_version",
+    "assigned",
+];
+
 /// The keys of the table `records`.
 pub(crate) const RECORDS_KEYS: [&str; 2] = ["name", "entity"];
 

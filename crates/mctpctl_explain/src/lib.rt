@@ -24,6 +24,6 @@ mod suggest;
 mod timing;
 mod words;
 
-pub use expected::refused_text;
+pub use expected::{misplaced_option_text, refused_text};
 pub use explanation::{Subcommand, explain};
 pub use input_warnings::{MAX_WARNINGS, warnings};

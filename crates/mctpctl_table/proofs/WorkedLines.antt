@@ -37,13 +37,13 @@ unfolding fan power line
 added = refl
 
 logged : log_text 1200 (fan ∷ power ∷ [])
-    ≡ codes "1200,sensor 1," ++ 34 ∷ codes "4200 rpm" ++ 34 ∷ 10
-    ∷ codes "1200,sensor 5," ++ 34 ∷ codes "state 1 (set 260: 1, 5)" ++ 34 ∷ 10 ∷ []
+    ≡ codes "1200,sensor 1," ++ 34 ∷ codes "Fan" ++ 34 ∷ 44 ∷ 34 ∷ codes "4200 rpm" ++ 34 ∷ 10
+    ∷ codes "1200,sensor 5," ++ 34 ∷ codes "Power" ++ 34 ∷ 44 ∷ 34 ∷ codes "state 1 (set 260: 1, 5)" ++ 34 ∷ 10 ∷ []
 unfolding fan power log_line digits
 logged = refl
 
 -- a value with a quote
 inches : log_text 0 (cells (codes "sensor 9") (codes "-") (codes "4" ++ 34 ∷ []) (codes "normal") ∷ [])
-    ≡ codes "0,sensor 9," ++ 34 ∷ codes "4" ++ 34 ∷ 34 ∷ 34 ∷ 10 ∷ []
+    ≡ codes "0,sensor 9," ++ 34 ∷ codes "-" ++ 34 ∷ 44 ∷ 34 ∷ codes "4" ++ 34 ∷ 34 ∷ 34 ∷ 10 ∷ []
 unfolding log_line digits
 inches = refl

@@ -12,9 +12,10 @@ escaped byte = if byte == 34 then 34 ∷ 34 ∷ [] else byte ∷ []
 abbrev pub quoted : List ℕ → List ℕ
 quoted text = 34 ∷ flat_map escaped text ++ 34 ∷ []
 
--- the moment, what the row is of, and its value
+-- the moment, what the row is of, its name and its value
 unfoldable pub log_line : ℕ → Cells → List ℕ
-log_line moment row = decimal moment ++ codes "," ++ row.what ++ codes "," ++ quoted row.value ++ 10 ∷ []
+log_line moment row =
+    decimal moment ++ codes "," ++ row.what ++ codes "," ++ quoted row.name ++ codes "," ++ quoted row.value ++ 10 ∷ []
 
 abbrev pub log_text : ℕ → List Cells → List ℕ
 log_text moment rows = flat_map (log_line moment) rows

@@ -27,6 +27,8 @@ fn push_log_line(out: &mut Vec<u8>, moment: u64, row: &Row) -> Result<(), Memory
     push_text(out, ",")?;
     push_bytes(out, row.cell(Column::What))?;
     push_text(out, ",")?;
+    push_quoted(out, row.cell(Column::Name))?;
+    push_text(out, ",")?;
     push_quoted(out, row.cell(Column::Value))?;
     push_text(out, "\n")
 }

@@ -1,5 +1,5 @@
 -- Commands were asked one after another.
-use Rattle.std.proofs.Common.{◌≡◌, ◌≤◌, length}
+use Rattle.std.proofs.Common.{◌≡◌, ◌<◌, length}
 use Rattle.mctpctl.proofs.WalkedOn.{WalkedSo}
 use Rattle.mctpctl.specs.Conversations.{IsGoingOn}
 use Rattle.mctpctl.specs.WalkedTexts.{walk_view}
@@ -12,6 +12,6 @@ invariant-loop g l = record {
       (walk_view g.C.Ticks.to_come g.R.Read.remaining g.W.Write.contents g.O.Write.contents l.initial.walk l.initial.conversation)
       (walk_view g.C.Ticks.to_come g.R.Read.remaining g.W.Write.contents g.O.Write.contents l.walk l.conversation);
   count : length walked.before ≡ l.counter;
-  range : l.status ≤ FAILED;
+  range : l.status < FAILED;
   going : IsGoingOn l.conversation;
 }

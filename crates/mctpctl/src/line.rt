@@ -1,0 +1,211 @@
+//! The line of `ask`, `walk` and `watch`: a terminal, held against other programs. And what is said of a line that fails
+//! or is quiet.
+
+ghost use Rattle.std.specs.Prelude.{◌≡◌};
+
+use crate::statuses::FAILED;
+use pldm_line::AskFault;
+use std::fs::{self, File, OpenOptions, TryLockError};
+use std::io::{self, Error, ErrorKind, IsTerminal, Read};
+use std::os::unix::fs::FileTypeExt;
+use std::time::{Duration, Instant};
+
+/// The name under which a program opens its own standard input once more.
+const STANDARD_INPUT: &str = "/proc/self/fd/0";
+
+/// The error of a terminal whose other end is gone: EIO.
+const HUNG_UP: i32 = 5;
+
+/// For how many milliseconds more than it has to the line is quiet, before that is said.
+const PATIENCE_MS: u64 = 1_000;
+
+/// A line that is asked on.
+#[derive(Drop)]
+pub struct Line<'p> {
+    /// What it is called; nothing where it is standard input and output.
+    pub path: Option<&'p str>,
+    /// The same terminal, where it is one: it is asked whether it has hung up.
+    pub probe: Option<File>,
+}
+
+impl Line<'_> {
+    /// Whether it was a terminal, and is none any more.
+    fn has_hung_up(&self) -> bool {
+        match &self.probe {
+            Some(file) => !file.is_terminal(),
+            None => false,
+        }
+    }
+
+    /// Says why nothing more was asked, and returns the exit status. A write to a terminal that has hung up is its end.
+    /// Where nobody reads what is printed, as behind `head`, nothing is said.
+    pub fn failed(&self, rt: &HostRuntime, fault: AskFault) -> u8
+        ensures { result ≡ FAILED }
+    {
+        let said = match fault {
+            AskFault::Unread => return FAILED,
+            AskFault::Write if self.has_hung_up() => AskFault::LineEnded,
+            fault => fault,
+        };
+        if let Some(path) = self.path {
+            let _ = eprintln!(rt; "mctpctl: {path}: {said}");
+        } else {
+            let _ = eprintln!(rt; "mctpctl: {said}");
+        }
+        FAILED
+    }
+}
+
+/// Reads a line. Where nothing has come at all for long, it says so once, on a terminal. The reads of a terminal have to
+/// end where nothing comes, as after `stty min 0 time 1`.
+#[derive(Drop)]
+pub struct LineReader<'r> {
+    rt: &'r HostRuntime,
+    file: File,
+    path: &'r str,
+    /// When it was opened.
+    since: Instant,
+    /// How long after it was opened that is said, where it was not said and nothing has come.
+    patience: Option<Duration>,
+}
+
+/// The terminal of this name, opened for reading and for writing, where no other program holds it. None is made.
+pub fn open_line<'r>(
+    rt: &'r HostRuntime,
+    path: &'r str,
+    wait: u64,
+) -> io::Result<(LineReader<'r>, File)> {
+    if !fs::metadata(rt, path)?.file_type().is_char_device() {
+        return Err(no_terminal());
+    }
+    let file = fs::open(rt, path)?;
+    if !file.is_terminal() {
+        return Err(no_terminal());
+    }
+    hold(&file)?;
+    let writer = OpenOptions::new().write(true).open(rt, path)?;
+    Ok((reader_of(rt, file, path, wait)?, writer))
+}
+
+/// Standard input, opened once more.
+pub fn open_input<'r>(rt: &'r HostRuntime, wait: u64) -> io::Result<LineReader<'r>> {
+    let file = fs::open(rt, STANDARD_INPUT)?;
+    reader_of(rt, file, STANDARD_INPUT, wait)
+}
+
+impl LineReader<'_> {
+    /// The terminal that is read, if it is one.
+    pub fn probe(&self) -> Option<File> {
+        if !self.file.is_terminal() {
+            return None;
+        }
+        self.file.try_clone().ok()
+    }
+
+    /// Says what is waited for, where nothing has come for long.
+    fn say_waiting(&mut self) {
+        let Some(patience) = self.patience else {
+            return;
+        };
+        let Ok(passed) = self.since.elapsed(self.rt) else {
+            return;
+        };
+        if passed < patience {
+            return;
+        }
+        self.patience = None;
+        let path = self.path;
+        if self.rt.stderr().is_terminal() {
+            let _ = eprintln!(self.rt;
+                "mctpctl: waiting for an answer on {path}; a terminal has to be raw: stty -F {path} raw -echo min 0 time 1"
+            );
+        }
+    }
+}
+
+impl Read for LineReader<'_> {
+    /// What has come; nothing where a read ended before something came, and of a line that has hung up.
+    fn read(&mut self, buf: &mut [u8]) -> io::Result<usize> {
+        match self.file.read(buf) {
+            Ok(0) => {
+                self.say_waiting();
+                Ok(0)
+            }
+            Ok(count) => {
+                self.patience = None;
+                Ok(count)
+            }
+            Err(error) if has_hung_up(&error) => Ok(0),
+            Err(error) => Err(error),
+        }
+    }
+}
+
+/// Reads as the inner reader does. A terminal that has hung up ends.
+#[derive(Drop)]
+pub struct EndingReader<R> {
+    inner: R,
+}
+
+impl<R> EndingReader<R> {
+    /// A reader over `inner`.
+    pub fn new(inner: R) -> EndingReader<R> {
+        EndingReader { inner }
+    }
+}
+
+impl<R: Read> Read for EndingReader<R> {
+    fn read(&mut self, buf: &mut [u8]) -> io::Result<usize> {
+        match self.inner.read(buf) {
+            Err(error) if has_hung_up(&error) => Ok(0),
+            result => result,
+        }
+    }
+}
+
+/// The name of the terminal that standard input is, if it is one.
+pub fn input_name(rt: &HostRuntime) -> Option<String> {
+    if !rt.stdin().is_terminal() {
+        return None;
+    }
+    let path = fs::read_link(rt, STANDARD_INPUT).ok()?;
+    String::from_str(rt.alloc(), path.as_path().to_str()?).ok()
+}
+
+/// A reader of this file.
+fn reader_of<'r>(
+    rt: &'r HostRuntime,
+    file: File,
+    path: &'r str,
+    wait: u64,
+) -> io::Result<LineReader<'r>> {
+    Ok(LineReader {
+        rt,
+        file,
+        path,
+        since: Instant::now(rt)?,
+        patience: Some(Duration::from_millis(wait.saturating_add(PATIENCE_MS))),
+    })
+}
+
+/// Holds a terminal, where no other program does, by the lock that others take too.
+fn hold(file: &File) -> io::Result<()> {
+    match file.try_lock() {
+        Ok(()) => Ok(()),
+        Err(TryLockError::WouldBlock) => Err(Error::new(
+            ErrorKind::ResourceBusy,
+            "in use by another program",
+        )),
+        Err(TryLockError::Error(error)) => Err(error),
+    }
+}
+
+/// Why a file is no line.
+fn no_terminal() -> Error {
+    Error::new(ErrorKind::InvalidInput, "not a terminal")
+}
+
+/// Whether a terminal has hung up.
+fn has_hung_up(error: &Error) -> bool {
+    error.raw_os_error() == Some(HUNG_UP)
+}
