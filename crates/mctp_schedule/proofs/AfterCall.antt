@@ -18,7 +18,7 @@ use Rattle.mctp_schedule.specs.Requests.{Request}
 use Rattle.mctp_schedule.specs.Running.{IsCarried, IsDevice, IsOpened, IsRunning, IsSide}
 use Rattle.mctp_schedule.specs.Timely.{ids_arrived}
 use Rattle.schedule_text.specs.Schedules.{has_requester}
-use Rattle.mctp_schedule.specs.Worlds.{BothEnds, World, is_timely, requests_of, time_now, pace_of, timing_of, with_call, world}
+use Rattle.mctp_schedule.specs.Worlds.{BothEnds, World, is_timely, requests_of, time_now, timing_of, with_call, world}
 use Rattle.mctp_schedule.specs.declared.entry.Entry.{Entry}
 use Rattle.mctp_schedule.specs.declared.journal.Journal.{Journal}
 use Rattle.schedule_text.specs.declared.step.Action.{Action}
@@ -64,6 +64,7 @@ module _ {P S : Type 0} (setting : BothEnds S) (past : List Step) (run : HeldRun
       let back : w ≡ world setting steps = sym same in
       record {
         times = running.times;
+        pace = running.pace;
         window = running.window;
         device = subst (λ v. IsDevice setting v moment run.responder) back (still_device setting w w (time_now past) moment run.responder refl later running.device);
         sides = λ e has.
@@ -101,21 +102,21 @@ module _ {P S : Type 0} (setting : BothEnds S) (past : List Step) (run : HeldRun
       where
         go : (d ≡ e) ⊎ (d ≡ e → ⊥) → (requests_of setting w d).count ≤ (requests_of setting v d).count
         go (inl same) =
-            let here = ap (λ cs. (requests d setting.eid (timing_of setting d) (pace_of setting d) cs).count) (ap (with_call w.calls e call) same ∙ call_here w.calls e call ∙ ap (λ k. call ∷ w.calls k) (sym same)) in
-            let more = (call_grows d setting.eid (timing_of setting d) (pace_of setting d) (requests_of setting w d) call).count in
+            let here = ap (λ cs. (requests d setting.eid (timing_of setting d) setting.pace cs).count) (ap (with_call w.calls e call) same ∙ call_here w.calls e call ∙ ap (λ k. call ∷ w.calls k) (sym same)) in
+            let more = (call_grows d setting.eid (timing_of setting d) setting.pace (requests_of setting w d) call).count in
             omega (arith, here, more)
-        go (inr other) = let same = ap (λ cs. (requests d setting.eid (timing_of setting d) (pace_of setting d) cs).count) (call_other w.calls e call d other) in omega (arith, same)
+        go (inr other) = let same = ap (λ cs. (requests d setting.eid (timing_of setting d) setting.pace cs).count) (call_other w.calls e call d other) in omega (arith, same)
 
-    pub new_side : IsLeftBy e setting.eid (timing_of setting e) (pace_of setting e) (held_of new.station) (call ∷ w.calls e) → new.numbers ≡ (running.sides e has).0.numbers → (requests e setting.eid (timing_of setting e) (pace_of setting e) (call ∷ w.calls e)).count ≡ (requests_of setting w e).count
+    pub new_side : IsLeftBy e setting.eid (timing_of setting e) setting.pace (held_of new.station) (call ∷ w.calls e) → new.numbers ≡ (running.sides e has).0.numbers → (requests e setting.eid (timing_of setting e) setting.pace (call ∷ w.calls e)).count ≡ (requests_of setting w e).count
         → (held_of new.station).last ≤ moment → IsSide setting v moment e new
     new_side left numbers count last =
         let s = (running.sides e has).2 in
         record {
           endpoint = s.endpoint;
           other = s.other;
-          left = subst (IsLeftBy e setting.eid (timing_of setting e) (pace_of setting e) (held_of new.station)) (sym (call_here w.calls e call)) left;
+          left = subst (IsLeftBy e setting.eid (timing_of setting e) setting.pace (held_of new.station)) (sym (call_here w.calls e call)) left;
           numbers = numbers ∙ s.numbers;
-          counted = s.counted ∙ sym (ap (λ cs. (requests e setting.eid (timing_of setting e) (pace_of setting e) cs).count) (call_here w.calls e call) ∙ count);
+          counted = s.counted ∙ sym (ap (λ cs. (requests e setting.eid (timing_of setting e) setting.pace cs).count) (call_here w.calls e call) ∙ count);
           numbered = s.numbered;
           called = last;
         }
@@ -155,6 +156,7 @@ module _ {P S : Type 0} (setting : BothEnds S) (past : List Step) (run : HeldRun
         go : v ≡ world setting steps → IsRunning setting steps (with_side run e new journal)
         go back = record {
           times = running.times;
+          pace = running.pace;
           window = running.window;
           device = subst (λ u. IsDevice setting u moment run.responder) back (still_device setting w v (time_now past) moment run.responder refl later running.device);
           sides = λ d known. let s = side_in d known in (s.0, s.1, subst (λ u. IsSide setting u moment d s.0) back s.2);

@@ -133,6 +133,7 @@ module _ {P S : Type 0} (setting : BothEnds S) (past : List Step) (run : HeldRun
   pub never_opened : asked_at w.log n ≡ None → Enters run.journal journal entry.Nothing → IsRunning setting (record { moment = moment; action = actions.Request n } ∷ past) (with_responder run run.responder journal)
   never_opened none enters = record {
     times = running.times;
+    pace = running.pace;
     window = running.window;
     device = record {
       endpoint = running.device.endpoint;
@@ -301,7 +302,7 @@ module _ {P S : Type 0} (setting : BothEnds S) (past : List Step) (run : HeldRun
       in_time_is : in_time ≡ comes_in_time setting w.log moment n (Some r)
       in_time_is =
           d.given_in_time
-          ∙ (λ i. nat_lt moment (r.opening + setting.keep)
+          ∙ (λ i. nat_lt moment (r.opening + (sym running.pace i).lifetime)
           && (not (arrived_is i) || list_any (λ other. other == id_at r.message) (take (running.window i) (running.arrived r.source i))))
 
       -- the delivery is the first arrival where it is said so
@@ -317,6 +318,7 @@ module _ {P S : Type 0} (setting : BothEnds S) (past : List Step) (run : HeldRun
       pub delivered_runs : IsRunning setting (record { moment = moment; action = actions.Request n } ∷ past) (with_delivery run new journal arrivals)
       delivered_runs = record {
         times = running.times;
+        pace = running.pace;
         window = running.window;
         device = record {
           endpoint = running.device.endpoint;

@@ -28,7 +28,7 @@ use Rattle.mctp_schedule.specs.Places.{side_at}
 use Rattle.mctp_schedule.specs.Requests.{Request, begun}
 use Rattle.mctp_schedule.specs.Running.{IsCarried, IsDevice, IsOpened, IsRunning, IsSide, busy_packets}
 use Rattle.schedule_text.specs.Schedules.{has_requester}
-use Rattle.mctp_schedule.specs.Worlds.{BothEnds, World, answer_packets, asked_by, requests_of, time_now, pace_of, timing_of, with_call, world}
+use Rattle.mctp_schedule.specs.Worlds.{BothEnds, World, answer_packets, asked_by, requests_of, time_now, timing_of, with_call, world}
 use Rattle.mctp_schedule.specs.declared.askers.SentRequest.{SentRequest}
 use Rattle.mctp_schedule.specs.declared.entry.Entry.TheVariants as entry
 use Rattle.mctp_schedule.specs.declared.journal.Journal.{Journal}
@@ -108,14 +108,14 @@ module _ {P S : Type 0} (setting : BothEnds S) (past : List Step) (run : HeldRun
       let s = (running.sides e has).2 in
       let held = held_of side.station in
       let timing = timing_of setting e in
-      let looked = looks e setting.eid timing (pace_of setting e) held (w.calls e) moment command s.left in
+      let looked = looks e setting.eid timing setting.pace held (w.calls e) moment command s.left in
       let off = refused_is (held_steps.is_tag_in_use held) (held_steps.is_id_in_use held moment) held.count fault x.answer in
       let shut = sym looked.1 ∙ off in
-      let left = same e setting.eid timing (pace_of setting e) (held_of new.station) held (call ∷ w.calls e) x.new_held (looked.3 off) in
-      let count = ap (λ (a : Requests). a.count) (cond-false (accepts timing.keep (pace_of setting e) before moment) (opened before moment command) before shut) in
+      let left = same e setting.eid timing setting.pace (held_of new.station) held (call ∷ w.calls e) x.new_held (looked.3 off) in
+      let count = ap (λ (a : Requests). a.count) (cond-false (accepts timing.keep setting.pace before moment) (opened before moment command) before shut) in
       called_runs setting past run journal running moment later (actions.Open e command) e has call new (entry.NotOpened fault)
       (record {
-        after = ap (λ log. record { calls = with_call w.calls e call; log = log }) (cond-false (accepts timing.keep (pace_of setting e) before moment) (Opened (asked_by setting w moment e command) ∷ w.log) w.log shut);
+        after = ap (λ log. record { calls = with_call w.calls e call; log = log }) (cond-false (accepts timing.keep setting.pace before moment) (Opened (asked_by setting w moment e command) ∷ w.log) w.log shut);
         is_side = new_side setting past run journal running moment later (actions.Open e command) e has call new left x.same_numbers count (let l = x.new_held.last in let y = s.called in omega (arith, l, y, later));
         requests = λ k. ap (λ rs. slice_get rs k) x.requests ∙ running.requests k ∙ stand shut k (asked_at w.log k);
         counted = ap (λ (rs : List Request). length rs) x.requests;
@@ -124,19 +124,19 @@ module _ {P S : Type 0} (setting : BothEnds S) (past : List Step) (run : HeldRun
         timely = x.timely ∙ running.timely;
       })
     where
-      stand_of : accepts (timing_of setting e).keep (pace_of setting e) (requests_of setting (world setting past) e) moment ≡ false → (r : Asked) → as_it_stands setting (world setting past) r ≡ as_it_stands setting (record { calls = with_call (world setting past).calls e (requester.Open moment command); log = (world setting past).log }) r
+      stand_of : accepts (timing_of setting e).keep setting.pace (requests_of setting (world setting past) e) moment ≡ false → (r : Asked) → as_it_stands setting (world setting past) r ≡ as_it_stands setting (record { calls = with_call (world setting past).calls e (requester.Open moment command); log = (world setting past).log }) r
       stand_of shut r = ap (λ c. record { asked = r; progress = c }) (go (cases_eq r.source e))
         where
           go : (r.source ≡ e) ⊎ (r.source ≡ e → ⊥) → (as_it_stands setting (world setting past) r).progress ≡ (as_it_stands setting (record { calls = with_call (world setting past).calls e (requester.Open moment command); log = (world setting past).log }) r).progress
-          go (inr other) = sym (ap (λ cs. ((requests r.source setting.eid (timing_of setting r.source) (pace_of setting r.source) cs).each r.own).course.progress) (call_other (world setting past).calls e (requester.Open moment command) r.source other))
+          go (inr other) = sym (ap (λ cs. ((requests r.source setting.eid (timing_of setting r.source) setting.pace cs).each r.own).course.progress) (call_other (world setting past).calls e (requester.Open moment command) r.source other))
           go (inl at) =
               ap (λ d. ((requests_of setting (world setting past) d).each r.own).course.progress) at
               ∙ sym (
-              ap (λ d. ((requests d setting.eid (timing_of setting d) (pace_of setting d) (with_call (world setting past).calls e (requester.Open moment command) d)).each r.own).course.progress) at
-              ∙ ap (λ cs. ((requests e setting.eid (timing_of setting e) (pace_of setting e) cs).each r.own).course.progress) (call_here (world setting past).calls e (requester.Open moment command))
-              ∙ ap (λ (a : Requests). (a.each r.own).course.progress) (cond-false (accepts (timing_of setting e).keep (pace_of setting e) (requests_of setting (world setting past) e) moment) _ _ shut))
+              ap (λ d. ((requests d setting.eid (timing_of setting d) setting.pace (with_call (world setting past).calls e (requester.Open moment command) d)).each r.own).course.progress) at
+              ∙ ap (λ cs. ((requests e setting.eid (timing_of setting e) setting.pace cs).each r.own).course.progress) (call_here (world setting past).calls e (requester.Open moment command))
+              ∙ ap (λ (a : Requests). (a.each r.own).course.progress) (cond-false (accepts (timing_of setting e).keep setting.pace (requests_of setting (world setting past) e) moment) _ _ shut))
 
-      stand : accepts (timing_of setting e).keep (pace_of setting e) (requests_of setting (world setting past) e) moment ≡ false → (k : ℕ) (o : Option Asked) → option_map (as_it_stands setting (world setting past)) o ≡ option_map (as_it_stands setting (record { calls = with_call (world setting past).calls e (requester.Open moment command); log = (world setting past).log })) o
+      stand : accepts (timing_of setting e).keep setting.pace (requests_of setting (world setting past) e) moment ≡ false → (k : ℕ) (o : Option Asked) → option_map (as_it_stands setting (world setting past)) o ≡ option_map (as_it_stands setting (record { calls = with_call (world setting past).calls e (requester.Open moment command); log = (world setting past).log })) o
       stand shut k None = refl
       stand shut k (Some r) = ap Some (stand_of shut r)
 
@@ -176,17 +176,17 @@ module _ {P S : Type 0} (setting : BothEnds S) (past : List Step) (run : HeldRun
     on : held_steps.accepts (held_of side.station) moment ≡ true
     on = accepted_is (held_steps.is_tag_in_use (held_of side.station)) (held_steps.is_id_in_use (held_of side.station) moment) (held_of side.station).count (opened_as (held_of side.station).count) x.is_sent.opened
 
-    looked_accepts : accepts timing.keep (pace_of setting e) before moment ≡ true
-    looked_accepts = sym (looks e setting.eid timing (pace_of setting e) (held_of side.station) (w.calls e) moment command s.left).1 ∙ on
+    looked_accepts : accepts timing.keep setting.pace before moment ≡ true
+    looked_accepts = sym (looks e setting.eid timing setting.pace (held_of side.station) (w.calls e) moment command s.left).1 ∙ on
 
     after : world setting steps ≡ v
-    after = ap (λ log. record { calls = with_call w.calls e call; log = log }) (cond-true (accepts timing.keep (pace_of setting e) before moment) (Opened (asked_by setting w moment e command) ∷ w.log) w.log looked_accepts)
+    after = ap (λ log. record { calls = with_call w.calls e call; log = log }) (cond-true (accepts timing.keep setting.pace before moment) (Opened (asked_by setting w moment e command) ∷ w.log) w.log looked_accepts)
 
-    new_before : requests e setting.eid timing (pace_of setting e) (call ∷ w.calls e) ≡ opened before moment command
-    new_before = cond-true (accepts timing.keep (pace_of setting e) before moment) (opened before moment command) before looked_accepts
+    new_before : requests e setting.eid timing setting.pace (call ∷ w.calls e) ≡ opened before moment command
+    new_before = cond-true (accepts timing.keep setting.pace before moment) (opened before moment command) before looked_accepts
 
     here : requests_of setting v e ≡ opened before moment command
-    here = ap (requests e setting.eid timing (pace_of setting e)) (call_here w.calls e call) ∙ new_before
+    here = ap (requests e setting.eid timing setting.pace) (call_here w.calls e call) ∙ new_before
 
     own_is : sent.own ≡ before.count
     own_is = x.is_sent.own ∙ s.left.count
@@ -215,8 +215,8 @@ module _ {P S : Type 0} (setting : BothEnds S) (past : List Step) (run : HeldRun
     is_side = record {
       endpoint = s.endpoint;
       other = s.other;
-      left = subst (IsLeftBy e setting.eid timing (pace_of setting e) (held_of new.station)) (sym (call_here w.calls e call))
-          (same e setting.eid timing (pace_of setting e) (held_of new.station) (opened_held (held_of side.station) moment command) (call ∷ w.calls e) x.new_held ((looks e setting.eid timing (pace_of setting e) (held_of side.station) (w.calls e) moment command s.left).2 on));
+      left = subst (IsLeftBy e setting.eid timing setting.pace (held_of new.station)) (sym (call_here w.calls e call))
+          (same e setting.eid timing setting.pace (held_of new.station) (opened_held (held_of side.station) moment command) (call ∷ w.calls e) x.new_held ((looks e setting.eid timing setting.pace (held_of side.station) (w.calls e) moment command s.left).2 on));
       numbers = x.more_numbers ∙ ap (λ xs. xs ++ length run.journal.requests.items ∷ []) s.numbers ∙ ap (λ n. numbers_of w.log e ++ n ∷ []) running.counted ∙ sym numbers_here;
       counted = ap (λ (xs : List ℕ). length xs) numbers_here ∙ length_pushed (numbers_of w.log e) count ∙ ap suc s.counted ∙ sym (ap (λ (a : Requests). a.count) here);
       numbered = λ own k at. numbered_at own k (get_pushed (numbers_of w.log e) count own k (sym (ap (λ xs. slice_get xs own) numbers_here) ∙ at));
@@ -249,7 +249,7 @@ module _ {P S : Type 0} (setting : BothEnds S) (past : List Step) (run : HeldRun
             let b = ap (λ d. (requests_of setting v d).count) at in
             let c = ap (λ (y : Requests). y.count) here in
             omega (arith, a, b, c)
-        grows (inr other) = let c = ap (λ cs. (requests r.source setting.eid (timing_of setting r.source) (pace_of setting r.source) cs).count) (call_other w.calls e call r.source other) in omega (arith, c)
+        grows (inr other) = let c = ap (λ cs. (requests r.source setting.eid (timing_of setting r.source) setting.pace cs).count) (call_other w.calls e call r.source other) in omega (arith, c)
 
         stays : (r.source ≡ e) ⊎ (r.source ≡ e → ⊥) → slice_get (numbers_of w.log r.source) r.own ≡ Some k → slice_get (numbers_of v.log r.source) r.own ≡ Some k
         stays (inl at) number =
@@ -262,7 +262,7 @@ module _ {P S : Type 0} (setting : BothEnds S) (past : List Step) (run : HeldRun
     stands k r is = ap (λ c. record { asked = r; progress = c }) (go (cases_eq r.source e))
       where
         go : (r.source ≡ e) ⊎ (r.source ≡ e → ⊥) → (as_it_stands setting w r).progress ≡ (as_it_stands setting v r).progress
-        go (inr other) = sym (ap (λ cs. ((requests r.source setting.eid (timing_of setting r.source) (pace_of setting r.source) cs).each r.own).course.progress) (call_other w.calls e call r.source other))
+        go (inr other) = sym (ap (λ cs. ((requests r.source setting.eid (timing_of setting r.source) setting.pace cs).each r.own).course.progress) (call_other w.calls e call r.source other))
         go (inl at) =
             let low = subst (λ d. r.own < (requests_of setting w d).count) at (running.opened k r is).within in
             ap (λ d. ((requests_of setting w d).each r.own).course.progress) at
@@ -354,13 +354,14 @@ module _ {P S : Type 0} (setting : BothEnds S) (past : List Step) (run : HeldRun
     entry_now : entry.Opened (length run.journal.requests.items) ≡ entry_of setting w moment (actions.Open e command)
     entry_now =
         ap entry.Opened running.counted
-        ∙ ap (open_entry count) (sym x.is_sent.opened ∙ (looks e setting.eid timing (pace_of setting e) (held_of side.station) (w.calls e) moment command s.left).0)
+        ∙ ap (open_entry count) (sym x.is_sent.opened ∙ (looks e setting.eid timing setting.pace (held_of side.station) (w.calls e) moment command s.left).0)
 
     pub opened_runs : IsRunning setting steps (with_side run e new journal)
     opened_runs =
         let back : v ≡ world setting steps = sym after in
         record {
           times = running.times;
+          pace = running.pace;
           window = running.window;
           device = subst (λ u. IsDevice setting u moment run.responder) back
               (record { endpoint = running.device.endpoint; left = running.device.left; events = running.device.events; called = let y = running.device.called in omega (arith, y, later) });

@@ -48,6 +48,7 @@ module _ {P S : Type 0} (setting : BothEnds S) (past : List Step) (run : HeldRun
       let v = world setting (record { moment = moment; action = actions.Sense id value } ∷ past) in
       record {
         times = running.times;
+        pace = running.pace;
         window = running.window;
         device = record {
           endpoint = running.device.endpoint;
@@ -78,6 +79,7 @@ module _ {P S : Type 0} (setting : BothEnds S) (past : List Step) (run : HeldRun
       let v = world setting (record { moment = moment; action = actions.Restart } ∷ past) in
       record {
         times = running.times;
+        pace = running.pace;
         window = running.window;
         device = record {
           endpoint = running.device.endpoint;

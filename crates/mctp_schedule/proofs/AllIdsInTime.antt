@@ -10,6 +10,8 @@ use Rattle.mctp_schedule.specs.FirstArrivals.{arrives, earlier, first, has_arriv
 use Rattle.mctp_schedule.specs.EachId as each_id
 use Rattle.mctp_schedule.specs.Logs.{Asked, Happening, Opened, Delivered, Sensed, WentDown, asked_at, reached}
 use Rattle.mctp_schedule.proofs.FirstPerformed.{first_below, is_first_of, request_older}
+use Rattle.mctp_schedule.proofs.ApartByTime.{apart_by_time, apart_in_time}
+use Rattle.mctp_schedule.proofs.IdsArrived.{any_is_found, ids_apart}
 use Rattle.pldm_responder.specs.Recency.{of_number, renewed}
 use Rattle.pldm_responder.proofs.NoIdFallsOut.{id_is_small}
 use Rattle.pldm_responder.proofs.RecentFirst.{Apart, Below, no_more, renewed_apart, renewed_below, renewed_finds, renewed_keeps, take_all}
@@ -19,14 +21,6 @@ use Rattle.mctp_schedule.specs.Timely.{InTime, ids_arrived, is_in_window, with_f
 -- a number is in a list
 abbrev In : ℕ → List ℕ → Type 0
 In n ids = is_some (of_number (λ i. i) n ids) ≡ true
-
-pub any_is_found : {A : Type 0} (test : A → Bool) (xs : List A) → list_any test xs ≡ is_some (find test xs)
-any_is_found test [] = refl
-any_is_found test (x ∷ xs) = go (test x) (any_is_found test xs)
-  where
-    go : (b : Bool) → list_any test xs ≡ is_some (find test xs) → (b || list_any test xs) ≡ is_some (if b then Some x else find test xs)
-    go true later = refl
-    go false later = later
 
 -- what is in the list stays in it
 stays_in : (n m : ℕ) (ids : List ℕ) → In n ids → In n (renewed (λ i. i) m ids)
@@ -47,19 +41,6 @@ comes_in r ids =
     ∙ ap is_some (renewed_finds (λ i. i) (id_at r.message) ids)
 
 module _ (S : Type 0) (keep : ℕ) where
-  ids_apart : (log : List Happening) (source : ℕ) → Apart (λ i. i) (ids_arrived S keep log source)
-  ids_apart [] source = tt
-  ids_apart (Opened _ ∷ past) source = ids_apart past source
-  ids_apart (Sensed _ _ _ ∷ past) source = ids_apart past source
-  ids_apart (WentDown _ ∷ past) source = ids_apart past source
-  ids_apart (Delivered t k ∷ past) source = go (asked_at past k) (ids_apart past source)
-    where
-      go : (o : Option Asked) → Apart (λ i. i) (ids_arrived S keep past source) → Apart (λ i. i) (with_first (is_first S keep past t k) o source (ids_arrived S keep past source))
-      go None before = before
-      go (Some r) before =
-          cond_both (r.source == source && is_first S keep past t k) _ (ids_arrived S keep past source) (Apart (λ i. i))
-          (λ _. renewed_apart (λ i. i) (id_at r.message) (ids_arrived S keep past source) before) (λ _. before)
-
   ids_below : (log : List Happening) (source : ℕ) → Below (λ i. i) INSTANCE_IDS (ids_arrived S keep log source)
   ids_below [] source = tt
   ids_below (Opened _ ∷ past) source = ids_below past source
@@ -111,12 +92,12 @@ module _ (S : Type 0) (keep : ℕ) where
     pub always_in_window : (past : List Happening) (k : ℕ) (r : Asked) → asked_at past k ≡ Some r → has_arrived S keep past k ≡ true → is_in_window S window keep past r ≡ true
     always_in_window past k r e came =
         let ids = ids_arrived S keep past r.source in
-        let few = no_more (λ i. i) INSTANCE_IDS ids (ids_apart past r.source) (ids_below past r.source) in
+        let few = no_more (λ i. i) INSTANCE_IDS ids (ids_apart S keep past r.source) (ids_below past r.source) in
         ap (list_any (λ i. i == id_at r.message)) (take_all window ids (omega (arith, few, wide)))
         ∙ any_is_found (λ i. i == id_at r.message) ids
         ∙ arrived_in past k r e came
 
-    in_time_from : (log : List Happening) → each_id.InTime keep log → InTime S window keep log
+    in_time_from : (log : List Happening) → each_id.InTime keep log → InTime S window keep keep log
     in_time_from [] i = tt
     in_time_from (Opened _ ∷ past) i = in_time_from past i
     in_time_from (Sensed _ _ _ ∷ past) i = in_time_from past i
@@ -124,7 +105,7 @@ module _ (S : Type 0) (keep : ℕ) where
     in_time_from (Delivered t k ∷ past) i =
         (λ r e. record { soon = i.0 r e; in_window = always_in_window past k r e }, in_time_from past i.1)
 
-  soon_in_time : (window : ℕ) (log : List Happening) → InTime S window keep log → each_id.InTime keep log
+  soon_in_time : (window : ℕ) (log : List Happening) → InTime S window keep keep log → each_id.InTime keep log
   soon_in_time window [] i = tt
   soon_in_time window (Opened _ ∷ past) i = soon_in_time window past i
   soon_in_time window (Sensed _ _ _ ∷ past) i = soon_in_time window past i
@@ -133,6 +114,11 @@ module _ (S : Type 0) (keep : ℕ) where
 
 pub all_ids_are_in_time : {S : Type 0} → AllIdsAreInTime S
 all_ids_are_in_time {S} window keep log wide = (
-  λ timely. record { order = timely.order; apart = timely.apart; in_time = soon_in_time S keep window log timely.in_time },
-  λ timely. record { order = timely.order; apart = timely.apart; in_time = in_time_from S keep window wide log timely.in_time },
+  λ timely. record { order = timely.order; apart = apart_in_time S window keep log timely.apart; in_time = soon_in_time S keep window log timely.in_time },
+  λ timely. record {
+    order = timely.order;
+    apart = apart_by_time S window keep log timely.apart;
+    in_time = in_time_from S keep window wide log timely.in_time;
+    within = omega arith;
+  },
 )

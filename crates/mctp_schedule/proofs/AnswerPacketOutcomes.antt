@@ -54,7 +54,7 @@ arrival_by (Whole body) = Drop NotReady
 arrival_by Partial = Part
 arrival_by (Dropped reason) = Drop reason
 
-module _ {S : Type 0} (setting : BothEnds S) (lower : Lower) (past : List Step) (timely : IsTimelyLog S setting.window setting.keep (world setting past).log) (sound : IsSound setting past) (k : ℕ) (r : Asked) (is : asked_at (world setting past).log k ≡ Some r) where
+module _ {S : Type 0} (setting : BothEnds S) (lower : Lower) (past : List Step) (timely : IsTimelyLog S setting.window setting.keep setting.pace.lifetime (world setting past).log) (sound : IsSound setting past) (k : ℕ) (r : Asked) (is : asked_at (world setting past).log k ≡ Some r) where
   abbrev w : World
   w = world setting past
 
@@ -76,7 +76,7 @@ module _ {S : Type 0} (setting : BothEnds S) (lower : Lower) (past : List Step) 
 
   pub packet_is : (j : ℕ) → reply_packet setting w k j ≡ slice_get (answer_packets setting.eid r m) j
   packet_is j =
-      (λ i. packet_of setting (is i) (given_is_the_reply setting.device setting.window setting.keep setting.start w.log k timely i) j)
+      (λ i. packet_of setting (is i) (given_is_the_reply setting.device setting.window setting.keep setting.pace.lifetime setting.start w.log k timely i) j)
       ∙ go (first S setting.keep w.log k) refl
     where
       go : (f : Option (List Happening)) → first S setting.keep w.log k ≡ f → packet_of setting (Some r) (given_once setting.device setting.keep setting.start w.log k) j ≡ slice_get (answer_packets setting.eid r m) j
@@ -108,7 +108,7 @@ module _ {S : Type 0} (setting : BothEnds S) (lower : Lower) (past : List Step) 
       subst (AnswersRequest r.own command) (sym own) (reply_answers lower.requests setting.device sound.reads state r.own command)
 
   fits : (j : ℕ) → j < part_count setting w k → FitsPackets m
-  fits j l = let came_in = has_arrived j l in the_reply_fits setting.device setting.window setting.keep setting.start w.log k came_in.0 timely sound.fit came_in.1
+  fits j l = let came_in = has_arrived j l in the_reply_fits setting.device setting.window setting.keep setting.pace.lifetime setting.start w.log k came_in.0 timely sound.fit came_in.1
 
   -- ---- the busy answer
   refuses : busy_reply r.message ≡ answer_message (id_of r.own) (kind_of command) (Refused ERROR_NOT_READY)

@@ -20,7 +20,7 @@ use Rattle.mctp_schedule.specs.FirstArrivals.{first}
 use Rattle.mctp_schedule.specs.OncePerformed.{RepliesFit, given, was_busy}
 use Rattle.mctp_schedule.specs.RequesterHalf.{IsSound, ProgressIs}
 use Rattle.mctp_schedule.specs.TakenReplies.{brought, came, completes, completes_for, is_waiting, part_count, replies, reply_of, taken, way_to}
-use Rattle.mctp_schedule.specs.Worlds.{IsTimely, IsTimelyAction, NeverWentBack, BothEnds, TagIsOwn, World, answer_packets, asked_by, busy_from, busy_packet, handed, packet_of, reply_packet, requests_of, source_of, pace_of, timing_of, world}
+use Rattle.mctp_schedule.specs.Worlds.{IsTimely, IsTimelyAction, NeverWentBack, BothEnds, TagIsOwn, World, answer_packets, asked_by, busy_from, busy_packet, handed, packet_of, reply_packet, requests_of, source_of, timing_of, world}
 use Rattle.schedule_text.specs.declared.step.Action.{Action}
 use Rattle.schedule_text.specs.declared.step.Action.TheVariants as actions
 use Rattle.schedule_text.specs.declared.step.Step.{Step}
@@ -33,7 +33,6 @@ use Rattle.mctp_schedule.proofs.KnownRequests.{Known, all_known, asked_stays_don
 use Rattle.mctp_schedule.proofs.UntouchedRequests.{Holds, Stands, arrived_stays, claim_moves, first_unopened, holds_kept, no_parts, quiet, reply_stays, same_kept, still_below, still_brought}
 use Rattle.mctp_schedule.proofs.RowsOfReplies.{Below}
 use Rattle.mctp_schedule.proofs.StepsOnRequests.{called, comes_to_it, comes_to_none, open_keeps, opens_new, others_rest, tick_keeps}
-use Rattle.mctp_schedule.proofs.TimelyLogs.{log_is_timely}
 
 by_keeps : (f : Fed) (course : Course) → course_after (arrival_by f) course ≡ course
 by_keeps (Whole body) course = refl
@@ -88,7 +87,7 @@ module _ {S : Type 0} (setting : BothEnds S) where
     abbrev new : Asked
     new = asked_by setting (world setting past) moment e command
 
-    holds_new : (k : ℕ) → asked_at (Log past) k ≡ None → accepts (timing_of setting e).keep (pace_of setting e) (requests_of setting (world setting past) e) moment ≡ true → Holds setting (opening ∷ past) k new
+    holds_new : (k : ℕ) → asked_at (Log past) k ≡ None → accepts (timing_of setting e).keep setting.pace (requests_of setting (world setting past) e) moment ≡ true → Holds setting (opening ∷ past) k new
     holds_new k off ok =
         let q = quiet setting past k off in
         let stands : Stands setting (opening ∷ past) new ≡ new_request moment command = opens_new setting (world setting past) (Log (opening ∷ past)) moment e command ok in
@@ -100,9 +99,9 @@ module _ {S : Type 0} (setting : BothEnds S) where
         }
 
     first_seen : (k : ℕ) (r : Asked) → asked_at (Log past) k ≡ None → asked_at (Log (opening ∷ past)) k ≡ Some r → Holds setting (opening ∷ past) k r
-    first_seen k r off is = go (accepts (timing_of setting e).keep (pace_of setting e) (requests_of setting (world setting past) e) moment) refl is
+    first_seen k r off is = go (accepts (timing_of setting e).keep setting.pace (requests_of setting (world setting past) e) moment) refl is
       where
-        go : (b : Bool) → accepts (timing_of setting e).keep (pace_of setting e) (requests_of setting (world setting past) e) moment ≡ b → asked_at (if b then Opened new ∷ Log past else Log past) k ≡ Some r → Holds setting (opening ∷ past) k r
+        go : (b : Bool) → accepts (timing_of setting e).keep setting.pace (requests_of setting (world setting past) e) moment ≡ b → asked_at (if b then Opened new ∷ Log past else Log past) k ≡ Some r → Holds setting (opening ∷ past) k r
         go false refused f = absurd (let wrong : Some r ≡ None = sym f ∙ off in cc)
         go true ok f =
             ⊎_elim
@@ -152,7 +151,7 @@ module _ {S : Type 0} (setting : BothEnds S) where
       holds_log step past h (λ k. ap (λ (w : World). asked_at w.log k) same) (λ r. ap (λ w. (requests_of setting w r.source).each r.own) same) rs ts
 
   -- a packet of an answer to request i is handed to its requester
-  module _ (lower : Lower) (past : List Step) (h : AllHold past) (timely : IsTimelyLog S setting.window setting.keep (world setting past).log) (sound : IsSound setting past) (step : Step) (moment i : ℕ) (q : Asked) (is : asked_at (world setting past).log i ≡ Some q) (own : TagIsOwn setting (world setting past) i) (message : List ℕ) (j : ℕ) (bytes : List ℕ) (sent : slice_get (answer_packets setting.eid q message) j ≡ Some bytes) (now_is : world setting (step ∷ past) ≡ called setting (world setting past) (world setting past).log q.source (Receive moment bytes)) (arrival : Arrival) (is_own : IsOf q.own arrival) (brings : is_waiting setting (world setting past) q ≡ true → fed_arrival (mine setting lower past timely sound i q is) q.own (next (Stands setting past q).fed (packet_at (way_to setting q) message j)) ≡ arrival) where
+  module _ (lower : Lower) (past : List Step) (h : AllHold past) (timely : IsTimelyLog S setting.window setting.keep setting.pace.lifetime (world setting past).log) (sound : IsSound setting past) (step : Step) (moment i : ℕ) (q : Asked) (is : asked_at (world setting past).log i ≡ Some q) (own : TagIsOwn setting (world setting past) i) (message : List ℕ) (j : ℕ) (bytes : List ℕ) (sent : slice_get (answer_packets setting.eid q message) j ≡ Some bytes) (now_is : world setting (step ∷ past) ≡ called setting (world setting past) (world setting past).log q.source (Receive moment bytes)) (arrival : Arrival) (is_own : IsOf q.own arrival) (brings : is_waiting setting (world setting past) q ≡ true → fed_arrival (mine setting lower past timely sound i q is) q.own (next (Stands setting past q).fed (packet_at (way_to setting q) message j)) ≡ arrival) where
     abbrev p : Packet
     p = packet_at (way_to setting q) message j
 
@@ -164,7 +163,7 @@ module _ {S : Type 0} (setting : BothEnds S) where
 
     arrives : is_waiting setting (world setting past) q ≡ true → arrived q.source setting.eid (timing_of setting q.source) (requests_of setting (world setting past) q.source) bytes ≡ arrival
     arrives waits =
-        comes_in q.source setting.eid (timing_of setting q.source) (pace_of setting q.source) ((world setting past).calls q.source) lower.found q.own known.within (own q is) p bytes (reads_back setting lower past timely sound i q is message j bytes sent) from refl waits
+        comes_in q.source setting.eid (timing_of setting q.source) setting.pace ((world setting past).calls q.source) lower.found q.own known.within (own q is) p bytes (reads_back setting lower past timely sound i q is message j bytes sent) from refl waits
         ∙ brings waits
 
     stands_open : is_waiting setting (world setting past) q ≡ true → Stands setting (step ∷ past) q ≡ with_arrival (Stands setting past q) p arrival
@@ -199,7 +198,7 @@ module _ {S : Type 0} (setting : BothEnds S) where
             (cases_eq k i)
 
   -- ---- a packet of a reply
-  no_reply : (past : List Step) (timely : IsTimelyLog S setting.window setting.keep (world setting past).log) (sound : IsSound setting past) (lower : Lower) (i j : ℕ) → part_count setting (world setting past) i ≤ j → reply_packet setting (world setting past) i j ≡ None
+  no_reply : (past : List Step) (timely : IsTimelyLog S setting.window setting.keep setting.pace.lifetime (world setting past).log) (sound : IsSound setting past) (lower : Lower) (i j : ℕ) → part_count setting (world setting past) i ≤ j → reply_packet setting (world setting past) i j ≡ None
   no_reply past timely sound lower i j l = go (asked_at (Log past) i) refl
     where
       go : (o : Option Asked) → asked_at (Log past) i ≡ o → reply_packet setting (world setting past) i j ≡ None
@@ -213,7 +212,7 @@ module _ {S : Type 0} (setting : BothEnds S) where
       go None = refl
       go (Some q) = and_left (nat_lt j (part_count setting (world setting past) i)) _ (le-ltb j (part_count setting (world setting past) i) l)
 
-  module _ (lower : Lower) (past : List Step) (h : AllHold past) (timely : IsTimelyLog S setting.window setting.keep (world setting past).log) (sound : IsSound setting past) (moment i j : ℕ) where
+  module _ (lower : Lower) (past : List Step) (h : AllHold past) (timely : IsTimelyLog S setting.window setting.keep setting.pace.lifetime (world setting past).log) (sound : IsSound setting past) (moment i j : ℕ) where
     abbrev replying : Step
     replying = record { moment = moment; action = actions.Reply j i }
 
@@ -329,7 +328,7 @@ module _ {S : Type 0} (setting : BothEnds S) where
   no_busy None = refl
   no_busy (Some q) = refl
 
-  module _ (lower : Lower) (past : List Step) (h : AllHold past) (timely : IsTimelyLog S setting.window setting.keep (world setting past).log) (sound : IsSound setting past) (moment i : ℕ) where
+  module _ (lower : Lower) (past : List Step) (h : AllHold past) (timely : IsTimelyLog S setting.window setting.keep setting.pace.lifetime (world setting past).log) (sound : IsSound setting past) (moment i : ℕ) where
     abbrev busying : Step
     busying = record { moment = moment; action = actions.Busy i }
 
@@ -404,7 +403,7 @@ module _ {S : Type 0} (setting : BothEnds S) where
         go (inr off) = holds_no_busy off
 
   -- ---- any step
-  holds_done : (lower : Lower) (past : List Step) → AllHold past → IsTimelyLog S setting.window setting.keep (world setting past).log → IsSound setting past → (moment : ℕ) (action : Action) → IsTimelyAction setting (world setting past) moment action → AllHold (record { moment = moment; action = action } ∷ past)
+  pub holds_done : (lower : Lower) (past : List Step) → AllHold past → IsTimelyLog S setting.window setting.keep setting.pace.lifetime (world setting past).log → IsSound setting past → (moment : ℕ) (action : Action) → IsTimelyAction setting (world setting past) moment action → AllHold (record { moment = moment; action = action } ∷ past)
   holds_done lower past h timely sound moment (actions.Open e command) own = holds_open past h moment e command
   holds_done lower past h timely sound moment (actions.Tick e) own =
       let ticking : Step = record { moment = moment; action = actions.Tick e } in
@@ -420,13 +419,8 @@ module _ {S : Type 0} (setting : BothEnds S) where
   pub sound_before : (step : Step) (past : List Step) → IsSound setting (step ∷ past) → IsSound setting past
   sound_before step past s = record {
     device = s.device;
+    pace = s.pace;
     sources = λ k r is. s.sources k r (asked_stays_done setting (world setting past) step.moment step.action k r is);
     fit = held_before setting (RepliesFit setting.device setting.window setting.keep setting.start) (fits_before setting.device setting.window setting.keep setting.start) (world setting past) step.moment step.action s.fit;
     reads = s.reads;
   }
-
-  pub all_hold : Lower → (steps : List Step) → NeverWentBack steps → IsTimely setting steps → IsSound setting steps → AllHold steps
-  all_hold lower [] order timely sound = λ k r is. absurd (cc)
-  all_hold lower (step ∷ past) order timely sound =
-      let before = sound_before step past sound in
-      holds_done lower past (all_hold lower past order.1 timely.1 before) (log_is_timely setting lower.apart past order.1 timely.1) before step.moment step.action timely.0

@@ -89,12 +89,12 @@ module _ {P S : Type 0} (setting : BothEnds S) (past : List Step) (run : HeldRun
         ∙ sym (ap (λ o. commands_if (fresh_of setting.window setting.keep (reached {S = S} log) moment o) o) is)
 
 -- ---- over a timely log what is fresh is a first arrival
-module _ {S : Type 0} (laws : FreshWhereFirst S) (window keep : ℕ) where
+module _ {S : Type 0} (laws : FreshWhereFirst S) (window keep lifetime : ℕ) where
   none_while_busy : (r : Asked) (place : Option (List Happening)) → is_first_of (Some r) place true ≡ false
   none_while_busy r None = refl
   none_while_busy r (Some place) = refl
 
-  fresh_is_first : (past : List Happening) (moment k : ℕ) → IsTimelyLog S window keep (Delivered moment k ∷ past) → (o : Option Asked) → asked_at past k ≡ o
+  fresh_is_first : (past : List Happening) (moment k : ℕ) → IsTimelyLog S window keep lifetime (Delivered moment k ∷ past) → (o : Option Asked) → asked_at past k ≡ o
       → commands_if (fresh_of window keep (reached {S = S} past) moment o) o ≡ commands_if (is_first_of o (first S keep past k) (is_busy keep (reached {S = S} past) moment)) o
   fresh_is_first past moment k timely None is = refl
   fresh_is_first past moment k timely (Some r) is = ap (λ b. commands_if b (Some r)) (go (is_busy keep (reached {S = S} past) moment) refl)
@@ -105,18 +105,18 @@ module _ {S : Type 0} (laws : FreshWhereFirst S) (window keep : ℕ) where
           ∙ sym (none_while_busy r (first S keep past k))
           ∙ sym (ap (is_first_of (Some r) (first S keep past k)) on)
       go false off =
-          (laws window keep past moment k r timely is off).0
+          (laws window keep lifetime past moment k r timely is off).0
           ∙ ap (λ o. is_first_of o (first S keep past k) (is_busy keep (reached {S = S} past) moment)) is
 
-  pub performed_once_each : (log : List Happening) → IsTimelyLog S window keep log → commands_performed S window keep log ≡ commands_once S keep log
+  pub performed_once_each : (log : List Happening) → IsTimelyLog S window keep lifetime log → commands_performed S window keep log ≡ commands_once S keep log
   performed_once_each [] t = refl
   performed_once_each (Opened r ∷ past) t =
-      performed_once_each past (record { order = t.order.1; apart = t.apart.1; in_time = t.in_time })
+      performed_once_each past (record { order = t.order.1; apart = t.apart.1; in_time = t.in_time; within = t.within })
   performed_once_each (Sensed moment id value ∷ past) t =
-      performed_once_each past (record { order = t.order.1; apart = t.apart; in_time = t.in_time })
+      performed_once_each past (record { order = t.order.1; apart = t.apart; in_time = t.in_time; within = t.within })
   performed_once_each (WentDown moment ∷ past) t =
-      performed_once_each past (record { order = t.order.1; apart = t.apart; in_time = t.in_time })
+      performed_once_each past (record { order = t.order.1; apart = t.apart; in_time = t.in_time; within = t.within })
   performed_once_each (Delivered moment k ∷ past) t =
       ap (λ cs. commands_at_delivery S window keep past moment k ++ cs)
-      (performed_once_each past (record { order = t.order.1; apart = t.apart; in_time = t.in_time.1 }))
+      (performed_once_each past (record { order = t.order.1; apart = t.apart; in_time = t.in_time.1; within = t.within }))
       ∙ ap (λ cs. cs ++ commands_once S keep past) (fresh_is_first past moment k t (asked_at past k) refl)

@@ -8,6 +8,7 @@ use Rattle.simulated_device.specs.DeviceAnswers.{answer, after}
 use Rattle.simulated_device.specs.Devices.{Device}
 use Rattle.simulated_device.specs.SensorAnswers.{sensed}
 use Rattle.simulated_device.specs.StateEffecters.{fields_of_states}
+use Rattle.pldm_requester.specs.Pacing.{at_default}
 use Rattle.pldm_responder.specs.Performing.{rules_of}
 use Rattle.mctp_schedule.specs.Worlds.{BothEnds}
 use Rattle.schedule_text.specs.declared.step.Action.{Action}
@@ -38,6 +39,7 @@ with_tries eight ten = record {
   keep = 1000;
   window = 32;
   requesters = record { eid = 8; timeout = 200; tries = eight } ∷ record { eid = 10; timeout = 200; tries = ten } ∷ [];
+  pace = at_default 1000;
 }
 
 abbrev pub at : ℕ → Action → Step

@@ -1,7 +1,7 @@
 -- The premises of the headline and of the laws under it are met by one run over the example device: requests that come
 -- in another order and again, a request and an answer that are lost, packets of an answer out of order, a restart, and
 -- an instance ID that is used again after 32 requests. The newest step stands first.
-use Rattle.std.proofs.Common.{◌≡◌, ◌≢◌, ℕ, zero, suc, ◌+◌, pos, List, [], ◌∷◌, ◌++◌, map, replicate, reverse, Some, true, false, refl, arith}
+use Rattle.std.proofs.Common.{◌≡◌, ◌≢◌, ℕ, zero, suc, ◌+◌, pos, List, [], ◌∷◌, ◌++◌, map, replicate, reverse, Some, true, false, refl, inr, arith}
 use Rattle.std.specs.Prelude.{option_map}
 use Rattle.std.specs.List.{range_with_len}
 use Rattle.pldm_wire.specs.declared.restart_policy.RestartPolicy.TheVariants.{All}
@@ -155,6 +155,7 @@ timely_schedule = record {
         sources_of setting IsOther steps
         (each_known_opens_at IsOther setting.requesters (is_eight, (is_ten, tt)) steps (each_is_known setting.requesters steps known_here));
     fit = replies_fit setting.device 32 1000 setting.start (world setting steps).log fit_here;
+    pace = record { within = omega arith; window = inr refl };
     reads = λ kind. refl;
   };
 }
@@ -171,7 +172,7 @@ in_time_here : in_time Device 32 1000 (world setting steps).log ≡ true
 unfolding request_of command_of response_of
 in_time_here = refl
 
-pub timely_link : IsTimelyLog Device 32 1000 (world setting steps).log
+pub timely_link : IsTimelyLog Device 32 1000 1000 (world setting steps).log
 timely_link = timely_log Device 32 1000 (world setting steps).log in_order_here apart_here in_time_here
 
 read_here : all_read (world setting steps).log ≡ true
@@ -183,4 +184,4 @@ requests_read = are_requests (world setting steps).log read_here
 
 -- ---- a law on it: the responder's state is that of performing each request once
 pub performed_once : performed setting.device All 32 1000 setting.start (reached (world setting steps).log) ≡ state_once setting steps
-performed_once = state_is_once setting.device 32 1000 setting.start (world setting steps).log timely_link
+performed_once = state_is_once setting.device 32 1000 1000 setting.start (world setting steps).log timely_link

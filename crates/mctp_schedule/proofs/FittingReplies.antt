@@ -1,14 +1,14 @@
 -- Each reply that the device made fits, so the one reply of each request does.
-use Rattle.std.proofs.Common.{◌≡◌, ℕ, List, [], ◌∷◌, Some, None, Option, Bool, true, false, refl, sym, ap, ◌∙◌, subst, eqb-true}
+use Rattle.std.proofs.Common.{◌≡◌, ℕ, ◌≤◌, List, [], ◌∷◌, Some, None, Option, Bool, true, false, refl, sym, ap, ◌∙◌, subst, eqb-true}
 use Rattle.std.specs.Prelude.{◌&&◌, ◌==◌}
 use Rattle.std.proofs.lemmas.Bool.{and_parts, not-true, not_from_false}
 use Rattle.pldm_responder.specs.Events.{is_busy}
 use Rattle.pldm_responder.specs.Performing.{Rules, reply}
-use Rattle.mctp_schedule.specs.Logs.{Asked, Happening, Opened, Delivered, Sensed, WentDown, asked_at, reached, InOrder, Apart}
+use Rattle.mctp_schedule.specs.Logs.{Asked, Happening, Opened, Delivered, Sensed, WentDown, asked_at, reached, InOrder}
 use Rattle.mctp_schedule.specs.FirstArrivals.{arrives, earlier, first, is_first}
 use Rattle.mctp_schedule.specs.OncePerformed.{bytes_of, once, reply_from, the_reply, FitsPackets, RepliesFit}
 use Rattle.mctp_schedule.proofs.FirstPerformed.{is_first_of, request_older, first_below, first_here, first_stays, entry, holds}
-use Rattle.mctp_schedule.specs.Timely.{InTime}
+use Rattle.mctp_schedule.specs.Timely.{AreApart, InTime}
 
 module _ {S : Type 0} (device : Rules S) (window keep : ℕ) (start : S) where
   pub fits_before : (h : Happening) (log : List Happening) → RepliesFit device window keep start (h ∷ log) → RepliesFit device window keep start log
@@ -17,7 +17,8 @@ module _ {S : Type 0} (device : Rules S) (window keep : ℕ) (start : S) where
   fits_before (Sensed _ _ _) log x = x
   fits_before (WentDown _) log x = x
 
-  pub reply_fits : (log : List Happening) → InOrder log → Apart keep log → InTime S window keep log → RepliesFit device window keep start log → (k : ℕ) (place : List Happening) → first S keep log k ≡ Some place → FitsPackets (the_reply device keep start log k)
+module _ {S : Type 0} (device : Rules S) (window keep lifetime : ℕ) (less : lifetime ≤ keep) (start : S) where
+  pub reply_fits : (log : List Happening) → InOrder log → AreApart S window keep lifetime log → InTime S window keep lifetime log → RepliesFit device window keep start log → (k : ℕ) (place : List Happening) → first S keep log k ≡ Some place → FitsPackets (the_reply device keep start log k)
   reply_fits [] o a i x k place e = absurd (cc)
   reply_fits (Sensed _ _ _ ∷ past) o a i x k place e = reply_fits past o.1 a i x k place e
   reply_fits (WentDown _ ∷ past) o a i x k place e = reply_fits past o.1 a i x k place e
@@ -38,13 +39,13 @@ module _ {S : Type 0} (device : Rules S) (window keep : ℕ) (start : S) where
       here (Some r) was same on none =
           let idle : busy ≡ false = not-true busy on in
           let at = subst (λ n. asked_at past n ≡ Some r) (sym same) was in
-          let soon = subst (λ n. InTime S window keep (Delivered t n ∷ past)) same i in
-          let f = entry device window keep start past t k r o a soon was idle in
+          let soon = subst (λ n. InTime S window keep lifetime (Delivered t n ∷ past)) same i in
+          let f = entry device window keep lifetime less start past t k r o a soon was idle in
           let is_the_first : is_first S keep past t k ≡ true = ap (λ q. is_first_of q (first S keep past k) busy) was ∙ ap (λ g. is_first_of (Some r) g busy) none ∙ not_from_false _ idle in
           let fit = x.0 r at (f.0 ∙ is_the_first) in
           let place_is : first S keep log k ≡ Some past = subst (λ n. first S keep (Delivered t n ∷ past) k ≡ Some past) (sym same) (first_here S keep past t k r was idle none) in
           subst (FitsPackets)
-          (ap (λ s. reply device s r.message) (holds device window keep start past o.1 a i.1).same
+          (ap (λ s. reply device s r.message) (holds device window keep lifetime less start past o.1 a i.1).same
           ∙ ap (λ q. reply device (once device keep start past) (bytes_of q)) (sym was)
           ∙ ap (reply_from device keep start (bytes_of (asked_at past k))) (sym place_is))
           fit

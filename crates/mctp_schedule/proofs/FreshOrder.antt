@@ -1,5 +1,5 @@
 -- The numbers of the fresh deliveries are the requests that arrived, in the order of their first arrivals, each once.
-use Rattle.std.proofs.Common.{◌≡◌, ◌⊎◌, ℕ, zero, suc, ◌<◌, List, [], ◌∷◌, ◌++◌, length, Some, None, Option, Ok, Bool, true, false, refl, sym, ap, ◌∙◌, subst, inl, inr, ⊎_elim, arith, eq-eqb}
+use Rattle.std.proofs.Common.{◌≡◌, ◌⊎◌, ℕ, zero, suc, ◌<◌, ◌≤◌, List, [], ◌∷◌, ◌++◌, length, Some, None, Option, Ok, Bool, true, false, refl, sym, ap, ◌∙◌, subst, inl, inr, ⊎_elim, arith, eq-eqb}
 use Rattle.std.specs.Prelude.{not, ◌||◌, ◌==◌, nat_lt, slice_get, is_some, if◌then◌else◌}
 use Rattle.std.specs.List.{list_any}
 use Rattle.std.proofs.lemmas.Bool.{and_left, not_from_true, ne_eqb, cases_Bool, cases_eq, ltb-true, ltb-false}
@@ -7,10 +7,10 @@ use Rattle.std.proofs.lemmas.List.Folds.{list_any-append}
 use Rattle.pldm_wire.specs.declared.answer.Answer.TheVariants as answers
 use Rattle.pldm_responder.specs.Events.{is_busy, is_copy}
 use Rattle.pldm_responder.specs.Performing.{Rules, rules_of}
-use Rattle.mctp_schedule.specs.Logs.{Asked, Happening, Opened, Delivered, Sensed, WentDown, asked_at, message_at, reached, InOrder, Apart}
-use Rattle.mctp_schedule.specs.Timely.{InTime}
+use Rattle.mctp_schedule.specs.Logs.{Asked, Happening, Opened, Delivered, Sensed, WentDown, asked_at, message_at, reached, InOrder}
+use Rattle.mctp_schedule.specs.Timely.{AreApart, InTime}
 use Rattle.mctp_schedule.specs.FirstArrivals.{first, is_first, fresh_of, order, firsts, IsSooner, IsOrderOfFirsts}
-use Rattle.mctp_schedule.proofs.SameOverAnyState.{same_busy, same_fresh, same_is_first, same_in_time}
+use Rattle.mctp_schedule.proofs.SameOverAnyState.{same_busy, same_fresh, same_is_first, same_apart, same_in_time}
 use Rattle.mctp_schedule.proofs.FirstPerformed.{is_first_of, never_first, first_other, first_stays, first_busy, first_none, first_here, entry}
 use Rattle.pldm_wire.specs.declared.restart_policy.RestartPolicy.TheVariants.{All}
 
@@ -153,8 +153,8 @@ module _ (S : Type 0) (keep : ℕ) where
           side : (i ≡ n → ⊥) → (i < n) ⊎ (n < i)
           side ne = ⊎_elim (λ (t : nat_lt i n ≡ true). inl (ltb-true i n t)) (λ (t : nat_lt i n ≡ false). inr (let l = ltb-false i n t in omega arith)) (cases_Bool (nat_lt i n))
 
-module _ (S : Type 0) (window keep : ℕ) where
-  pub fresh_first : (past : List Happening) (t k : ℕ) → InOrder (Delivered t k ∷ past) → Apart keep past → InTime S window keep (Delivered t k ∷ past) → fresh_of window keep (reached {S = S} past) t (asked_at past k) ≡ is_first S keep past t k
+module _ (S : Type 0) (window keep lifetime : ℕ) (less : lifetime ≤ keep) where
+  pub fresh_first : (past : List Happening) (t k : ℕ) → InOrder (Delivered t k ∷ past) → AreApart S window keep lifetime past → InTime S window keep lifetime (Delivered t k ∷ past) → fresh_of window keep (reached {S = S} past) t (asked_at past k) ≡ is_first S keep past t k
   fresh_first past t k o a i = go (asked_at past k) refl (is_busy keep (reached {S = S} past) t) refl
     where
       late : (r : Asked) (f : Option (List Happening)) → is_first_of (Some r) f true ≡ false
@@ -165,18 +165,18 @@ module _ (S : Type 0) (window keep : ℕ) where
       go None is b busy = sym (ap (λ q. is_first_of q (first S keep past k) (is_busy keep (reached {S = S} past) t)) is ∙ never_first (first S keep past k) (is_busy keep (reached {S = S} past) t))
       go (Some r) is false idle =
           same_fresh S ℕ window keep past (message_at t r)
-          ∙ (entry idle_device window keep 0 past t k r o a (same_in_time S ℕ window keep (Delivered t k ∷ past) i) is (same_busy ℕ S keep past t ∙ idle)).0
+          ∙ (entry idle_device window keep lifetime less 0 past t k r o (same_apart S ℕ window keep lifetime past a) (same_in_time S ℕ window keep lifetime (Delivered t k ∷ past) i) is (same_busy ℕ S keep past t ∙ idle)).0
           ∙ same_is_first ℕ S keep past t k
       go (Some r) is true busy =
           and_left (not (is_busy keep (reached {S = S} past) t)) (not (is_copy All window keep (reached {S = S} past) (message_at t r))) (not_from_true _ busy)
           ∙ sym (ap (λ q. is_first_of q (first S keep past k) (is_busy keep (reached {S = S} past) t)) is ∙ ap (is_first_of (Some r) (first S keep past k)) busy ∙ late r (first S keep past k))
 
-  pub order_firsts : (log : List Happening) → InOrder log → Apart keep log → InTime S window keep log → order S window keep log ≡ firsts S keep log
+  pub order_firsts : (log : List Happening) → InOrder log → AreApart S window keep lifetime log → InTime S window keep lifetime log → order S window keep log ≡ firsts S keep log
   order_firsts [] o a i = refl
   order_firsts (Opened _ ∷ past) o a i = order_firsts past o.1 a.1 i
   order_firsts (Sensed _ _ _ ∷ past) o a i = order_firsts past o.1 a i
   order_firsts (WentDown _ ∷ past) o a i = order_firsts past o.1 a i
   order_firsts (Delivered t k ∷ past) o a i = λ s. if fresh_first past t k o a i s then order_firsts past o.1 a i.1 s ++ k ∷ [] else order_firsts past o.1 a i.1 s
 
-  pub order_is : (log : List Happening) → InOrder log → Apart keep log → InTime S window keep log → IsOrderOfFirsts S keep log (order S window keep log)
+  pub order_is : (log : List Happening) → InOrder log → AreApart S window keep lifetime log → InTime S window keep lifetime log → IsOrderOfFirsts S keep log (order S window keep log)
   order_is log o a i = subst (IsOrderOfFirsts S keep log) (sym (order_firsts log o a i)) (firsts_are S keep log)

@@ -1,5 +1,5 @@
 -- What a run reports of a timely schedule is the headline.
-use Rattle.std.proofs.Common.{◌≡◌, ℕ, true, false, List, [], ◌∷◌, ◌++◌, Option, Some, None, refl, sym, ap, subst, ◌∙◌}
+use Rattle.std.proofs.Common.{◌≡◌, ℕ, true, false, List, [], ◌∷◌, ◌++◌, Option, Some, None, refl, sym, ap, subst, ◌∙◌, inr, arith}
 use Rattle.std.specs.Prelude.{option_map, slice_get}
 use Rattle.pldm_wire.specs.Kinds.{TypeAndCommand}
 use Rattle.pldm_wire.specs.declared.restart_policy.RestartPolicy.TheVariants.{All}
@@ -8,12 +8,13 @@ use Rattle.pldm_responder.specs.Events.{is_busy}
 use Rattle.pldm_responder.specs.Performing.{performed}
 use Rattle.pldm_responder.specs.ResponderViews as responder_stations
 use Rattle.pldm_wire.specs.declared.command.Command.{Command}
+use Rattle.pldm_requester.specs.declared.pace.Pace.{Pace}
 use Rattle.mctp_schedule.specs.DeviceHalf.{DeliveryIsExpected, FreshInOrderOfFirsts, FreshWhereFirst, StateIsOnce}
 use Rattle.mctp_schedule.specs.Entries.{as_it_stands, delivery_entry, entries, entry_of, got_entry}
 use Rattle.mctp_schedule.specs.FirstArrivals.{order}
 use Rattle.mctp_schedule.specs.Headline.{Headline, delivery_owes, entries_expected, entry_owes}
 use Rattle.mctp_schedule.specs.HeldRuns.{HeldRun}
-use Rattle.mctp_schedule.specs.Laws.{LogIsTimely, TimelyIsTested}
+use Rattle.mctp_schedule.specs.Laws.{PacedLogIsTimely, TimelyIsTested}
 use Rattle.mctp_schedule.specs.Logs.{Asked, asked_at, reached}
 use Rattle.mctp_schedule.specs.Timely.{IsTimelyLog}
 use Rattle.mctp_schedule.specs.RequesterHalf.{AnsweredWasPerformed, AnsweredWhereTaken, BusyIsExpected, IsSound, IsTimelySchedule, ReplyIsExpected}
@@ -30,7 +31,7 @@ use Rattle.mctp_schedule.proofs.AnsweredWhereTaken.{sound_before}
 
 -- the laws of both halves
 pub record Halves {S : Type 0} (setting : BothEnds S) : Type 0 where
-  pub log : LogIsTimely setting
+  pub log : PacedLogIsTimely setting
   pub tested : TimelyIsTested setting
   pub state : StateIsOnce setting.device
   pub delivery : DeliveryIsExpected setting.device
@@ -42,8 +43,8 @@ pub record Halves {S : Type 0} (setting : BothEnds S) : Type 0 where
   pub performed : AnsweredWasPerformed setting
 
 module _ {S : Type 0} (setting : BothEnds S) (laws : Halves setting) where
-  log_of : (steps : List Step) → IsTimelySchedule setting steps → IsTimelyLog S setting.window setting.keep (world setting steps).log
-  log_of steps s = laws.log steps s.order s.timely
+  log_of : (steps : List Step) → IsTimelySchedule setting steps → IsTimelyLog S setting.window setting.keep setting.pace.lifetime (world setting steps).log
+  log_of steps s = laws.log steps s
 
   before : (step : Step) (past : List Step) → IsTimelySchedule setting (step ∷ past) → IsTimelySchedule setting past
   before step past s = record { order = s.order.1; timely = s.timely.1; sound = sound_before setting step past s.sound }
@@ -53,7 +54,7 @@ module _ {S : Type 0} (setting : BothEnds S) (laws : Halves setting) where
   delivery_is past moment k s None is = refl
   delivery_is past moment k s (Some r) is =
       ap (Delivered (is_busy setting.keep (reached {S = S} (world setting past).log) moment))
-      (laws.delivery setting.eid setting.window setting.keep setting.start (world setting past).log moment k r (log_of (record { moment = moment; action = actions.Request k } ∷ past) s) is)
+      (laws.delivery setting.eid setting.window setting.keep setting.pace.lifetime setting.start (world setting past).log moment k r (log_of (record { moment = moment; action = actions.Request k } ∷ past) s) is)
 
   entry_is : (past : List Step) (moment : ℕ) (action : Action) → IsTimelySchedule setting (record { moment = moment; action = action } ∷ past) → entry_of setting (world setting past) moment action ≡ entry_owes setting past moment action
   entry_is past moment (actions.Open e command) s = refl
@@ -64,7 +65,7 @@ module _ {S : Type 0} (setting : BothEnds S) (laws : Halves setting) where
   entry_is past moment (actions.Busy k) s = ap got_entry (laws.busy past moment k (before (record { moment = moment; action = actions.Busy k }) past s) s.timely.0)
   entry_is past moment (actions.Sense id value) s =
       ap (λ state. Sensed (made_of (λ _. tt) (setting.device.sensed state id value)))
-      (laws.state setting.window setting.keep setting.start (world setting past).log (log_of past (before (record { moment = moment; action = actions.Sense id value }) past s)))
+      (laws.state setting.window setting.keep setting.pace.lifetime setting.start (world setting past).log (log_of past (before (record { moment = moment; action = actions.Sense id value }) past s)))
 
   entries_are : (steps : List Step) → IsTimelySchedule setting steps → entries setting steps ≡ entries_expected setting steps
   entries_are [] s = refl
@@ -82,9 +83,9 @@ module _ {S : Type 0} (setting : BothEnds S) (laws : Halves setting) where
       stands = laws.answered steps k r s is;
       performed = λ message e. laws.performed steps k r message s is e;
     };
-    performed_in_order = laws.order setting.window setting.keep (world setting steps).log (log_of steps s);
-    performed_once = laws.state setting.window setting.keep setting.start (world setting steps).log (log_of steps s);
-    each_command_once = subst Performed (performed_once_each laws.fresh setting.window setting.keep (world setting steps).log (log_of steps s)) given;
+    performed_in_order = laws.order setting.window setting.keep setting.pace.lifetime (world setting steps).log (log_of steps s);
+    performed_once = laws.state setting.window setting.keep setting.pace.lifetime setting.start (world setting steps).log (log_of steps s);
+    each_command_once = subst Performed (performed_once_each laws.fresh setting.window setting.keep setting.pace.lifetime (world setting steps).log (log_of steps s)) given;
   }
 
 -- ---- a run discharges the premises
@@ -94,6 +95,10 @@ module _ {P S : Type 0} (setting : BothEnds S) (past : List Step) (run : HeldRun
     device = running.device.endpoint;
     sources = λ k r is. let s = (running.sides r.source (running.opened k r is).source).2 in (s.endpoint, s.other);
     fit = running.fit;
+    pace = record {
+      within = let e = ap (λ (p : Pace). p.lifetime) running.pace in omega (arith, e);
+      window = inr (ap (λ (p : Pace). p.lifetime) running.pace);
+    };
     reads = reads;
   }
 

@@ -8,7 +8,8 @@ use Rattle.pldm_responder.specs.Recency.{of_number, renewed}
 use Rattle.pldm_responder.proofs.CopiesByTheRule.{found_where, in_front, in_front_renewed}
 use Rattle.mctp_schedule.specs.InWindow.{InWindowByTheRule, others_arrived, with_other}
 use Rattle.mctp_schedule.specs.Timely.{ids_arrived, with_first}
-use Rattle.mctp_schedule.proofs.AllIdsInTime.{any_is_found, arrived_in}
+use Rattle.mctp_schedule.proofs.AllIdsInTime.{arrived_in}
+use Rattle.mctp_schedule.proofs.IdsArrived.{any_is_found}
 
 front_if : (b : Bool) (n m : ℕ) (ids : List ℕ) → in_front (λ i. i) n (if b then renewed (λ i. i) m ids else ids) ≡ (if b then (if m == n then [] else renewed (λ i. i) m (in_front (λ i. i) n ids)) else in_front (λ i. i) n ids)
 front_if true n m ids = in_front_renewed (λ i. i) n m ids

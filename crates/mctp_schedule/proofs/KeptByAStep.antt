@@ -17,7 +17,7 @@ use Rattle.mctp_schedule.specs.Journals.{Carried, packets_in}
 use Rattle.mctp_schedule.specs.Logs.{Asked, asked_at}
 use Rattle.mctp_schedule.specs.OncePerformed.{given, was_busy}
 use Rattle.mctp_schedule.specs.Running.{IsBefore, IsCarried, IsDevice, IsOpened, IsSide, busy_packets}
-use Rattle.mctp_schedule.specs.Worlds.{BothEnds, World, answer_packets, requests_of, pace_of, timing_of, with_call}
+use Rattle.mctp_schedule.specs.Worlds.{BothEnds, World, answer_packets, requests_of, timing_of, with_call}
 use Rattle.mctp_schedule.specs.declared.entry.Entry.{Entry}
 use Rattle.mctp_schedule.proofs.EntriesSpelled.{column_more}
 use Rattle.mctp_schedule.proofs.ListPlaces.{get_before}
@@ -58,9 +58,9 @@ module _ {S : Type 0} (setting : BothEnds S) where
   still_side w v now moment e side calls numbers asked later s = record {
     endpoint = s.endpoint;
     other = s.other;
-    left = subst (IsLeftBy e setting.eid (timing_of setting e) (pace_of setting e) (held_of side.station)) (sym calls) s.left;
+    left = subst (IsLeftBy e setting.eid (timing_of setting e) setting.pace (held_of side.station)) (sym calls) s.left;
     numbers = s.numbers ∙ sym numbers;
-    counted = ap (λ (xs : List ℕ). length xs) numbers ∙ s.counted ∙ ap (λ cs. (requests e setting.eid (timing_of setting e) (pace_of setting e) cs).count) (sym calls);
+    counted = ap (λ (xs : List ℕ). length xs) numbers ∙ s.counted ∙ ap (λ cs. (requests e setting.eid (timing_of setting e) setting.pace cs).count) (sym calls);
     numbered = λ own k here.
         let q = s.numbered own k (sym (ap (λ xs. slice_get xs own) numbers) ∙ here) in
         (q.0, asked k q.0 q.1, q.2, q.3);

@@ -12,7 +12,7 @@ use Rattle.pldm_requester.specs.Numbering.{message_of}
 use Rattle.pldm_requester.specs.declared.pace.Pace.{Pace}
 use Rattle.pldm_requester.specs.declared.timing.Timing.{Timing}
 use Rattle.mctp_schedule.specs.Logs.{Asked, Happening, Opened, Delivered, Sensed, WentDown, asked_at, count_of}
-use Rattle.mctp_schedule.specs.Worlds.{BothEnds, World, asked_by, busy_packet, done, handed, log_opened, reply_packet, requests_of, source_of, pace_of, timing_of, with_call, world}
+use Rattle.mctp_schedule.specs.Worlds.{BothEnds, World, asked_by, busy_packet, done, handed, log_opened, reply_packet, requests_of, source_of, timing_of, with_call, world}
 use Rattle.schedule_text.specs.declared.step.Action.{Action}
 use Rattle.schedule_text.specs.declared.step.Action.TheVariants as actions
 use Rattle.schedule_text.specs.declared.step.Step.{Step}
@@ -85,7 +85,7 @@ module _ {S : Type 0} (setting : BothEnds S) where
   GrowsByOne log now = (now ≡ log) ⊎ ((h : Happening) × (now ≡ h ∷ log))
 
   pub log_done : (w : World) (moment : ℕ) (action : Action) → GrowsByOne w.log (done setting w moment action).log
-  log_done w moment (actions.Open e command) = go (accepts (timing_of setting e).keep (pace_of setting e) (requests_of setting w e) moment)
+  log_done w moment (actions.Open e command) = go (accepts (timing_of setting e).keep setting.pace (requests_of setting w e) moment)
     where
       go : (b : Bool) → GrowsByOne w.log (if b then Opened (asked_by setting w moment e command) ∷ w.log else w.log)
       go true = inr (Opened (asked_by setting w moment e command), refl)
@@ -125,12 +125,12 @@ module _ {S : Type 0} (setting : BothEnds S) where
     pub known : (k : ℕ) (r : Asked) → asked_at w.log k ≡ Some r → Known w r
     pub distinct : (k i : ℕ) (r q : Asked) → asked_at w.log k ≡ Some r → asked_at w.log i ≡ Some q → r.source ≡ q.source → r.own ≡ q.own → k ≡ i
 
-  calls_keep : (calls : ℕ → List Call) (e : ℕ) (call : Call) (d : ℕ) → KeepsCommands (requests d setting.eid (timing_of setting d) (pace_of setting d) (calls d)) (requests d setting.eid (timing_of setting d) (pace_of setting d) (with_call calls e call d))
+  calls_keep : (calls : ℕ → List Call) (e : ℕ) (call : Call) (d : ℕ) → KeepsCommands (requests d setting.eid (timing_of setting d) setting.pace (calls d)) (requests d setting.eid (timing_of setting d) setting.pace (with_call calls e call d))
   calls_keep calls e call d = go (d == e)
     where
-      go : (b : Bool) → KeepsCommands (requests d setting.eid (timing_of setting d) (pace_of setting d) (calls d)) (requests d setting.eid (timing_of setting d) (pace_of setting d) (if b then call ∷ calls d else calls d))
-      go true = call_keeps d setting.eid (timing_of setting d) (pace_of setting d) (requests d setting.eid (timing_of setting d) (pace_of setting d) (calls d)) call
-      go false = same_keeps (requests d setting.eid (timing_of setting d) (pace_of setting d) (calls d))
+      go : (b : Bool) → KeepsCommands (requests d setting.eid (timing_of setting d) setting.pace (calls d)) (requests d setting.eid (timing_of setting d) setting.pace (if b then call ∷ calls d else calls d))
+      go true = call_keeps d setting.eid (timing_of setting d) setting.pace (requests d setting.eid (timing_of setting d) setting.pace (calls d)) call
+      go false = same_keeps (requests d setting.eid (timing_of setting d) setting.pace (calls d))
 
   still_known : (w : World) (e : ℕ) (call : Call) (log : List Happening) (r : Asked) → Known w r → Known (record { calls = with_call w.calls e call; log = log }) r
   still_known w e call log r m =
@@ -153,10 +153,10 @@ module _ {S : Type 0} (setting : BothEnds S) where
     distinct = λ k i r q x y. a.distinct k i r q (sym (same k) ∙ x) (sym (same i) ∙ y);
   }
 
-  new_known : (w : World) (moment e : ℕ) (command : Command) (log : List Happening) → accepts (timing_of setting e).keep (pace_of setting e) (requests_of setting w e) moment ≡ true → Known (record { calls = with_call w.calls e (Open moment command); log = log }) (asked_by setting w moment e command)
+  new_known : (w : World) (moment e : ℕ) (command : Command) (log : List Happening) → accepts (timing_of setting e).keep setting.pace (requests_of setting w e) moment ≡ true → Known (record { calls = with_call w.calls e (Open moment command); log = log }) (asked_by setting w moment e command)
   new_known w moment e command log accepted =
       let a = requests_of setting w e in
-      let here : requests e setting.eid (timing_of setting e) (pace_of setting e) (with_call w.calls e (Open moment command) e) ≡ opened a moment command = ap (requests e setting.eid (timing_of setting e) (pace_of setting e)) (cond-true (e == e) (Open moment command ∷ w.calls e) (w.calls e) (eq-eqb e e refl)) ∙ cond-true (accepts (timing_of setting e).keep (pace_of setting e) a moment) (opened a moment command) a accepted in
+      let here : requests e setting.eid (timing_of setting e) setting.pace (with_call w.calls e (Open moment command) e) ≡ opened a moment command = ap (requests e setting.eid (timing_of setting e) setting.pace) (cond-true (e == e) (Open moment command ∷ w.calls e) (w.calls e) (eq-eqb e e refl)) ∙ cond-true (accepts (timing_of setting e).keep setting.pace a moment) (opened a moment command) a accepted in
       let newest : ((opened a moment command).each a.count).command ≡ command = ap (λ (r : Request). r.command) (cond-true (a.count == a.count) (new_request moment command) (a.each a.count) (eq-eqb a.count a.count refl)) in
       record {
         within = subst (λ (b : Requests). a.count < b.count) (sym here) (omega arith);
@@ -164,7 +164,7 @@ module _ {S : Type 0} (setting : BothEnds S) where
       }
 
   opened_known : (w : World) (moment e : ℕ) (command : Command) → AllKnown w → AllKnown (record { calls = with_call w.calls e (Open moment command); log = log_opened setting w moment e command })
-  opened_known w moment e command a = go (accepts (timing_of setting e).keep (pace_of setting e) (requests_of setting w e) moment) refl
+  opened_known w moment e command a = go (accepts (timing_of setting e).keep setting.pace (requests_of setting w e) moment) refl
     where
       new : Asked
       new = asked_by setting w moment e command
@@ -178,7 +178,7 @@ module _ {S : Type 0} (setting : BothEnds S) where
       distinct k i r q (inr x) (inl y) s o = absurd (apart r (a.known k r x.1) (s ∙ ap (λ (z : Asked). z.source) (sym y.1)) (o ∙ ap (λ (z : Asked). z.own) (sym y.1)))
       distinct k i r q (inr x) (inr y) s o = a.distinct k i r q x.1 y.1 s o
 
-      go : (b : Bool) → accepts (timing_of setting e).keep (pace_of setting e) (requests_of setting w e) moment ≡ b → AllKnown (record { calls = with_call w.calls e (Open moment command); log = if b then Opened new ∷ w.log else w.log })
+      go : (b : Bool) → accepts (timing_of setting e).keep setting.pace (requests_of setting w e) moment ≡ b → AllKnown (record { calls = with_call w.calls e (Open moment command); log = if b then Opened new ∷ w.log else w.log })
       go false refused = called_known w e (Open moment command) a
       go true accepted = record {
         known = λ k r is. ⊎_elim

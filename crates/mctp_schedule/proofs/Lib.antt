@@ -8,6 +8,7 @@ pub mod AllIdsInTime
 pub mod AnswerPacketOutcomes
 pub mod AnswerPacketsAtRequester
 pub mod AnsweredWhereTaken
+pub mod ApartByTime
 pub mod ArrivedOnce
 pub mod AskerCalls
 pub mod BegunRequesters
@@ -36,6 +37,8 @@ pub mod NumberedRequests
 pub mod Numbers
 pub mod OneReplyGiven
 pub mod OneReplyTaken
+pub mod OthersInFront
+pub mod PacedLogs
 pub mod PremiseTests
 pub mod RepliesAreTaken
 pub mod ReportedRequests
@@ -48,6 +51,7 @@ pub mod StepsOnRequests
 pub mod TimelyLogs
 pub mod TimelyTests
 pub mod UntouchedRequests
+pub mod WorkedPaces
 pub mod WorkedRequesterHalf
 pub mod WorkedRuns
 pub mod WorkedWindows

@@ -6,7 +6,7 @@ use Rattle.mctp_packet.specs.Packets.{Packet}
 use Rattle.mctp_packet.specs.declared.reason.Reason.{Reason}
 use Rattle.pldm_wire.specs.declared.command.Command.{Command}
 use Rattle.pldm_requester.specs.Arrivals.{Arrival, Drop, Part, Answer}
-use Rattle.pldm_requester.specs.Calls.{Call, Open, Tick, Receive, Request, Requests, accepts, after_call, answered_by, arrived, fed_by, fed_to, goes_to, last_moment, opened, passed, requests, with_request}
+use Rattle.pldm_requester.specs.Calls.{Call, Open, Tick, Receive, Request, Requests, accepts, after_call, answered_by, arrived, fed_by, fed_to, goes_to, last_moment, opened, passed, received, requests, with_request}
 use Rattle.pldm_requester.specs.Courses.{Course, is_given_up, is_sent_again, given_up, sent_again, ticked}
 use Rattle.pldm_requester.specs.Laws.{moment_of}
 use Rattle.pldm_requester.specs.declared.pace.Pace.{Pace}
@@ -80,3 +80,23 @@ module _ (own device : ℕ) (timing : Timing) (pace : Pace) where
       go false = before
   call_last calls (Tick moment) before = omega arith
   call_last calls (Receive moment bytes) before = omega arith
+
+-- bytes that are received open none
+module _ (own device : ℕ) (timing : Timing) where
+  fed_count : (a : Requests) (p : Packet) (to : Option ℕ) → (fed_to own device timing a p to).count ≡ a.count
+  fed_count a p None = refl
+  fed_count a p (Some n) = refl
+
+  passed_count : (a : Requests) (read : Result Packet Reason) → (fed_by own device timing a read).count ≡ a.count
+  passed_count a (Err reason) = refl
+  passed_count a (Ok p) = fed_count a p (goes_to own device timing a p)
+
+  answered_count : (a : Requests) (arrival : Arrival) → (answered_by own device timing a arrival).count ≡ a.count
+  answered_count a (Drop reason) = refl
+  answered_count a Part = refl
+  answered_count a (Answer n message) = refl
+
+  pub received_count : (a : Requests) (bytes : List ℕ) → (received own device timing a bytes).count ≡ a.count
+  received_count a bytes =
+      answered_count (fed_by own device timing a (passed own device timing a bytes)) (arrived own device timing a bytes)
+      ∙ passed_count a (passed own device timing a bytes)

@@ -1,11 +1,11 @@
 -- What the device gave to a request: its one reply, once it has arrived.
-use Rattle.std.proofs.Common.{◌≡◌, ◌⊎◌, ℕ, List, [], ◌∷◌, Some, None, Option, Bool, true, false, refl, sym, ap, ◌∙◌, subst, inl, inr, eqb-true}
+use Rattle.std.proofs.Common.{◌≡◌, ◌⊎◌, ℕ, ◌≤◌, List, [], ◌∷◌, Some, None, Option, Bool, true, false, refl, sym, ap, ◌∙◌, subst, inl, inr, eqb-true}
 use Rattle.std.specs.Prelude.{◌&&◌, ◌||◌, ◌==◌, option_map, if◌then◌else◌}
 use Rattle.std.proofs.lemmas.Bool.{and_parts, and_right, not-true, cases_Bool, cond-true, cond-false}
 use Rattle.pldm_responder.specs.Events.{is_busy}
 use Rattle.pldm_responder.specs.Performing.{Rules}
-use Rattle.mctp_schedule.specs.Logs.{Asked, Happening, Opened, Delivered, Sensed, WentDown, count_of, asked_at, reached, InOrder, Apart}
-use Rattle.mctp_schedule.specs.Timely.{InTime}
+use Rattle.mctp_schedule.specs.Logs.{Asked, Happening, Opened, Delivered, Sensed, WentDown, count_of, asked_at, reached, InOrder}
+use Rattle.mctp_schedule.specs.Timely.{AreApart, InTime}
 use Rattle.mctp_schedule.specs.FirstArrivals.{arrives, earlier, first, is_answered_busy}
 use Rattle.mctp_schedule.specs.OncePerformed.{bytes_of, reply_from, the_reply, answered_to, given, given_once, was_busy}
 use Rattle.mctp_schedule.proofs.FirstPerformed.{request_older, first_below, first_here, first_stays, entry}
@@ -14,12 +14,12 @@ use Rattle.mctp_schedule.proofs.FirstPerformed.{request_older, first_below, firs
 abbrev pub reply_at_first : {S : Type 0} → Rules S → ℕ → S → List Happening → ℕ → Option (List Happening) → Option (List ℕ)
 reply_at_first device keep start log k place = option_map (λ _. the_reply device keep start log k) place
 
-module _ {S : Type 0} (device : Rules S) (window keep : ℕ) (start : S) where
+module _ {S : Type 0} (device : Rules S) (window keep lifetime : ℕ) (less : lifetime ≤ keep) (start : S) where
   abbrev pub Reply : List Happening → ℕ → List ℕ
   Reply log k = the_reply device keep start log k
 
   -- one more delivery
-  step : (past : List Happening) (moment i k : ℕ) → InOrder (Delivered moment i ∷ past) → Apart keep past → InTime S window keep (Delivered moment i ∷ past) → given device window keep start past k ≡ reply_at_first device keep start past k (first S keep past k) → given device window keep start (Delivered moment i ∷ past) k ≡ reply_at_first device keep start (Delivered moment i ∷ past) k (first S keep (Delivered moment i ∷ past) k)
+  step : (past : List Happening) (moment i k : ℕ) → InOrder (Delivered moment i ∷ past) → AreApart S window keep lifetime past → InTime S window keep lifetime (Delivered moment i ∷ past) → given device window keep start past k ≡ reply_at_first device keep start past k (first S keep past k) → given device window keep start (Delivered moment i ∷ past) k ≡ reply_at_first device keep start (Delivered moment i ∷ past) k (first S keep (Delivered moment i ∷ past) k)
   step past moment i k o a it ih = go (cases_Bool test)
     where
       busy : Bool
@@ -46,8 +46,8 @@ module _ {S : Type 0} (device : Rules S) (window keep : ℕ) (start : S) where
       here None e on same = absurd (cc)
       here (Some r) e on same =
           let idle : busy ≡ false = not-true busy on in
-          let it' = subst (λ n. InTime S window keep (Delivered moment n ∷ past)) same it in
-          let x = entry device window keep start past moment k r o a it' e idle in
+          let it' = subst (λ n. InTime S window keep lifetime (Delivered moment n ∷ past)) same it in
+          let x = entry device window keep lifetime less start past moment k r o a it' e idle in
           ap Some x.1
           ∙ ap (λ n. Some (the_reply device keep start (Delivered moment n ∷ past) k)) (sym same)
           ∙ came (first S keep past k) refl
@@ -60,7 +60,7 @@ module _ {S : Type 0} (device : Rules S) (window keep : ℕ) (start : S) where
       go (inr off) = cond-false test _ _ off ∙ ih ∙ grown (first S keep past k) refl off ∙ ap (reply_at_first device keep start log k) (sym (old off))
       go (inl on) = let p = and_parts (i == k) (arrives (asked_at past k) busy) on in cond-true test _ _ on ∙ here (asked_at past k) refl p.1 (eqb-true i k p.0)
 
-  pub given_is : (log : List Happening) → InOrder log → Apart keep log → InTime S window keep log → (k : ℕ) → given device window keep start log k ≡ reply_at_first device keep start log k (first S keep log k)
+  pub given_is : (log : List Happening) → InOrder log → AreApart S window keep lifetime log → InTime S window keep lifetime log → (k : ℕ) → given device window keep start log k ≡ reply_at_first device keep start log k (first S keep log k)
   given_is [] o a i k = refl
   given_is (Delivered moment n ∷ past) o a i k = step past moment n k o a i (given_is past o.1 a i.1 k)
   given_is (Sensed m x v ∷ past) o a i k = given_is past o.1 a i k ∙ same (first S keep past k)

@@ -25,7 +25,7 @@ use Rattle.mctp_schedule.specs.Timely.{IsTimelyLog}
 use Rattle.mctp_schedule.specs.OncePerformed.{given, was_busy}
 use Rattle.mctp_schedule.specs.RequesterHalf.{AnsweredWasPerformed, AnsweredWhereTaken, BusyIsExpected, IsTimelySchedule, OwnAssembly, OwnDeliveries, ReplyIsExpected, ProgressIs, TakenOnce}
 use Rattle.mctp_schedule.specs.TakenReplies.{brought, busy_expected, busy_expected_to, came, completes, completes_for, got_by, if_waiting, is_waiting, part_count, reply_of, reply_expected, reply_expected_to, taken, way_to}
-use Rattle.mctp_schedule.specs.Worlds.{IsTimelyAction, BothEnds, TagIsOwn, World, answer_packets, busy_from, busy_packet, packet_of, reply_packet, source_of, pace_of, timing_of, world}
+use Rattle.mctp_schedule.specs.Worlds.{IsTimelyAction, BothEnds, TagIsOwn, World, answer_packets, busy_from, busy_packet, packet_of, reply_packet, source_of, timing_of, world}
 use Rattle.schedule_text.specs.declared.step.Action.TheVariants.{Reply, Busy}
 use Rattle.schedule_text.specs.declared.step.Step.{Step}
 use Rattle.mctp_schedule.proofs.AnswerPacketOutcomes.{Lower, arrival_by, arrival_expected, busy_brings, busy_is, busy_is_one, mine, packet_is, performed_at, reads_back, reply_brings}
@@ -34,8 +34,8 @@ use Rattle.mctp_schedule.proofs.AnswerPacketsAtRequester.{bad_tag, comes_in, pac
 use Rattle.mctp_schedule.proofs.KnownRequests.{Known, all_known}
 use Rattle.mctp_schedule.proofs.UntouchedRequests.{Stands}
 use Rattle.mctp_schedule.proofs.StepsOnRequests.{waits_so}
-use Rattle.mctp_schedule.proofs.AnsweredWhereTaken.{AllHold, all_hold}
-use Rattle.mctp_schedule.proofs.TimelyLogs.{log_is_timely}
+use Rattle.mctp_schedule.proofs.AnsweredWhereTaken.{AllHold}
+use Rattle.mctp_schedule.proofs.PacedLogs.{all_hold, paced_log_is_timely}
 
 by_got : (f : Fed) → got_of (arrival_by f) ≡ got_by f
 by_got (Whole body) = refl
@@ -55,15 +55,15 @@ module _ {S : Type 0} (setting : BothEnds S) (lower : Lower) where
   all_of : (steps : List Step) → IsTimelySchedule setting steps → AllHold setting steps
   all_of steps s = all_hold setting lower steps s.order s.timely s.sound
 
-  log_of : (steps : List Step) → IsTimelySchedule setting steps → IsTimelyLog S setting.window setting.keep (world setting steps).log
-  log_of steps s = log_is_timely setting lower.apart steps s.order s.timely
+  log_of : (steps : List Step) → IsTimelySchedule setting steps → IsTimelyLog S setting.window setting.keep setting.pace.lifetime (world setting steps).log
+  log_of steps s = paced_log_is_timely setting lower steps s
 
   pub own_deliveries : OwnDeliveries setting
   own_deliveries steps k r s is waits = (all_of steps s k r is).fed waits
 
   pub own_assembly : FedSinceItsOpening → OwnAssembly setting
   own_assembly since steps k r s is waits =
-      since r.source setting.eid (timing_of setting r.source) (pace_of setting r.source) ((world setting steps).calls r.source) r.own waits
+      since r.source setting.eid (timing_of setting r.source) setting.pace ((world setting steps).calls r.source) r.own waits
       ∙ own_deliveries steps k r s is waits
 
   pub answered_where_taken : AnsweredWhereTaken setting
@@ -91,7 +91,7 @@ module _ {S : Type 0} (setting : BothEnds S) (lower : Lower) where
       let h = all_of steps s k r is in
       let took = taken_of steps k message (Stands setting steps r).course.progress stands h.progress in
       let came_in = h.arrived took.0 in
-      let listing = fresh_in_order_of_firsts setting.window setting.keep (world setting steps).log (log_of steps s) in
+      let listing = fresh_in_order_of_firsts setting.window setting.keep setting.pace.lifetime (world setting steps).log (log_of steps s) in
       let at = listed_at k (order S setting.window setting.keep (world setting steps).log) (listing.has k ∙ ap is_some came_in.1) in
       record {
         place = came_in.0;
@@ -122,12 +122,12 @@ module _ {S : Type 0} (setting : BothEnds S) (lower : Lower) where
     gives_bad_tag : is_waiting setting (world setting past) r ≡ false → got_from setting (world setting past) r.source (Some bytes) ≡ Some (got.Dropped BadTag)
     gives_bad_tag shut =
         ap (λ x. Some (got_of x))
-        (bad_tag r.source setting.eid timing (pace_of setting r.source) calls lower.found r.own known.within (own r is) p bytes (reads_back setting lower past (log_of past s) s.sound k r is message j bytes sent) from refl shut)
+        (bad_tag r.source setting.eid timing setting.pace calls lower.found r.own known.within (own r is) p bytes (reads_back setting lower past (log_of past s) s.sound k r is message j bytes sent) from refl shut)
 
     gives_arrival : (arrival : Arrival) → is_waiting setting (world setting past) r ≡ true → fed_arrival (mine setting lower past (log_of past s) s.sound k r is) r.own (next (came setting past k r) p) ≡ arrival → got_from setting (world setting past) r.source (Some bytes) ≡ Some (got_of arrival)
     gives_arrival arrival waits brings =
         ap (λ x. Some (got_of x))
-        (comes_in r.source setting.eid timing (pace_of setting r.source) calls lower.found r.own known.within (own r is) p bytes (reads_back setting lower past (log_of past s) s.sound k r is message j bytes sent) from refl waits
+        (comes_in r.source setting.eid timing setting.pace calls lower.found r.own known.within (own r is) p bytes (reads_back setting lower past (log_of past s) s.sound k r is message j bytes sent) from refl waits
         ∙ ap (λ fed. fed_arrival (mine setting lower past (log_of past s) s.sound k r is) r.own (next fed p)) ((all_of past s k r is).fed waits)
         ∙ brings)
 

@@ -1,9 +1,10 @@
 -- Tests of the premises of the laws, so that a schedule that is written out meets them by computing.
-use Rattle.std.proofs.Common.{◌≡◌, ◌≢◌, ℕ, ◌+◌, ◌*◌, ◌≤◌, List, [], ◌∷◌, length, Option, Some, None, Ok, Err, Bool, true, false, refl, ap, ◌∙◌, subst, ⊎_elim, eq-eqb}
+use Rattle.std.proofs.Common.{◌≡◌, ◌≢◌, ℕ, ◌+◌, ◌*◌, ◌≤◌, List, [], ◌∷◌, length, Option, Some, None, Ok, Err, Bool, true, false, refl, sym, ap, ◌∙◌, subst, ⊎_elim, arith, eq-eqb}
 use Rattle.std.specs.Prelude.{Result, not, ◌&&◌, ◌||◌, ◌==◌, is_ok, nat_le, nat_lt}
 use Rattle.std.specs.List.{AllByRecursion}
-use Rattle.std.proofs.lemmas.Bool.{and_parts, and_from, leb-true, ltb-true}
-use Rattle.mctp_packet.specs.declared.TheConstants.{MAX_MESSAGE_BYTES}
+use Rattle.std.proofs.lemmas.Bool.{and_parts, and_from, leb-true, ltb-true, not-true}
+use Rattle.mctp_packet.specs.Ids.{IsEid}
+use Rattle.mctp_packet.specs.declared.TheConstants.{MAX_MESSAGE_BYTES, MAX_EID, MIN_EID}
 use Rattle.mctp_packet.specs.declared.reason.Reason.{Reason}
 use Rattle.pldm_wire.specs.Headers.{id_at}
 use Rattle.pldm_wire.specs.Requests as requests
@@ -18,6 +19,7 @@ use Rattle.schedule_text.specs.Schedules.{AreDistinct, AreKnown, IsSchedule, Nev
 use Rattle.mctp_schedule.specs.Worlds.{NeverWentBack, time_now}
 use Rattle.schedule_text.specs.declared.step.RequesterLine.{RequesterLine}
 use Rattle.schedule_text.specs.declared.step.Step.{Step}
+use Rattle.mctp_schedule.proofs.ApartByTime.{apart_by_time}
 use Rattle.mctp_schedule.proofs.FirstPerformed.{request_opened}
 
 same : (P : Asked → Type 0) (q : Asked) → P q → (r : Asked) → Some q ≡ Some r → P r
@@ -140,14 +142,14 @@ module _ (S : Type 0) (window keep : ℕ) where
   in_time (WentDown _ ∷ past) = in_time past
   in_time (Delivered moment k ∷ past) = comes_in_time past moment k (asked_at past k) && in_time past
 
-  came_in_time : (past : List Happening) (moment k : ℕ) (o : Option Asked) → comes_in_time past moment k o ≡ true → (r : Asked) → o ≡ Some r → ComesInTime S window keep past moment k r
+  came_in_time : (past : List Happening) (moment k : ℕ) (o : Option Asked) → comes_in_time past moment k o ≡ true → (r : Asked) → o ≡ Some r → ComesInTime S window keep keep past moment k r
   came_in_time past moment k None t r e = absurd (cc)
   came_in_time past moment k (Some q) t r e =
       let parts = and_parts (nat_lt moment (q.opening + keep)) (not (has_arrived S keep past k) || is_in_window S window keep past q) t in
-      same (ComesInTime S window keep past moment k) q
+      same (ComesInTime S window keep keep past moment k) q
       (record { soon = ltb-true moment (q.opening + keep) parts.0; in_window = then_so (has_arrived S keep past k) (is_in_window S window keep past q) parts.1 }) r e
 
-  is_in_time : (log : List Happening) → in_time log ≡ true → InTime S window keep log
+  is_in_time : (log : List Happening) → in_time log ≡ true → InTime S window keep keep log
   is_in_time [] t = tt
   is_in_time (Opened _ ∷ past) t = is_in_time past t
   is_in_time (Sensed _ _ _ ∷ past) t = is_in_time past t
@@ -156,11 +158,12 @@ module _ (S : Type 0) (window keep : ℕ) where
       let parts = and_parts (comes_in_time past moment k (asked_at past k)) (in_time past) t in
       (came_in_time past moment k (asked_at past k) parts.0, is_in_time past parts.1)
 
-  pub timely_log : (log : List Happening) → in_order log ≡ true → apart keep log ≡ true → in_time log ≡ true → IsTimelyLog S window keep log
+  pub timely_log : (log : List Happening) → in_order log ≡ true → apart keep log ≡ true → in_time log ≡ true → IsTimelyLog S window keep keep log
   timely_log log o a i = record {
     order = is_in_order log o;
-    apart = are_apart keep log a;
+    apart = apart_by_time S window keep log (are_apart keep log a);
     in_time = is_in_time log i;
+    within = omega arith;
   }
 
 -- ---- of the requests
@@ -183,6 +186,35 @@ are_requests (Opened r ∷ past) t =
 are_requests (Delivered _ _ ∷ past) t = are_requests past t
 are_requests (Sensed _ _ _ ∷ past) t = are_requests past t
 are_requests (WentDown _ ∷ past) t = are_requests past t
+
+-- ---- of their sources
+abbrev from_requester : ℕ → Asked → Bool
+from_requester device r = nat_le MIN_EID r.source && nat_le r.source MAX_EID && not (r.source == device)
+
+abbrev pub all_from_requesters : ℕ → List Happening → Bool
+all_from_requesters device [] = true
+all_from_requesters device (Opened r ∷ past) = from_requester device r && all_from_requesters device past
+all_from_requesters device (Delivered _ _ ∷ past) = all_from_requesters device past
+all_from_requesters device (Sensed _ _ _ ∷ past) = all_from_requesters device past
+all_from_requesters device (WentDown _ ∷ past) = all_from_requesters device past
+
+is_from_requester : (device : ℕ) (r : Asked) → from_requester device r ≡ true → IsEid r.source × (r.source ≢ device)
+is_from_requester device r t =
+    let parts = and_parts (nat_le MIN_EID r.source && nat_le r.source MAX_EID) (not (r.source == device)) t in
+    let ends = and_parts (nat_le MIN_EID r.source) (nat_le r.source MAX_EID) parts.0 in
+    ((leb-true MIN_EID r.source ends.0, leb-true r.source MAX_EID ends.1), λ same. absurd (let on = eq-eqb r.source device same in let off = not-true (r.source == device) parts.1 in let wrong : true ≡ false = sym on ∙ off in cc))
+
+pub sources_of : (device : ℕ) (log : List Happening) → all_from_requesters device log ≡ true → (k : ℕ) (r : Asked) → asked_at log k ≡ Some r → IsEid r.source × (r.source ≢ device)
+sources_of device [] t k r e = absurd (cc)
+sources_of device (Delivered _ _ ∷ past) t k r e = sources_of device past t k r e
+sources_of device (Sensed _ _ _ ∷ past) t k r e = sources_of device past t k r e
+sources_of device (WentDown _ ∷ past) t k r e = sources_of device past t k r e
+sources_of device (Opened q ∷ past) t k r e =
+    let parts = and_parts (from_requester device q) (all_from_requesters device past) t in
+    ⊎_elim
+    (λ (x : (k ≡ count_of past) × (q ≡ r)). subst (λ (o : Asked). IsEid o.source × (o.source ≢ device)) x.1 (is_from_requester device q parts.0))
+    (λ (x : (k ≢ count_of past) × (asked_at past k ≡ Some r)). sources_of device past parts.1 k r x.1)
+    (request_opened q past k r e)
 
 -- ---- of the replies
 abbrev fits : List ℕ → Bool

@@ -1,5 +1,5 @@
 -- What a run holds before its first step, and that each step may come after those before it.
-use Rattle.std.proofs.Common.{◌≡◌, ℕ, ◌≤◌, true, List, [], ◌∷◌, ◌++◌, length, refl, ap, subst, ◌∙◌, arith}
+use Rattle.std.proofs.Common.{◌≡◌, ℕ, ◌≤◌, true, List, [], ◌∷◌, ◌++◌, length, refl, sym, ap, subst, ◌∙◌, arith}
 use Rattle.std.specs.Prelude.{reverse, slice_get}
 use Rattle.std.proofs.lemmas.List.{reverse-append}
 use Rattle.pldm_wire.specs.declared.restart_policy.RestartPolicy.TheVariants.{All}
@@ -9,14 +9,17 @@ use Rattle.pldm_responder.specs.Laws as device_laws
 use Rattle.pldm_responder.specs.ResponderViews as responder_stations
 use Rattle.pldm_requester.specs.Laws.{NewLooksBack, SameIsLeft}
 use Rattle.pldm_requester.specs.Slots.{held_of}
-use Rattle.pldm_requester.specs.Steps.{held_at_first}
+use Rattle.pldm_requester.specs.Pacing.{at_default}
+use Rattle.pldm_requester.specs.Steps as requester_held
+use Rattle.pldm_requester.specs.Steps.{paced_at_first}
 use Rattle.mctp_schedule.specs.ArrivedIds.{ids_at}
 use Rattle.mctp_schedule.specs.Askers.{Side}
 use Rattle.mctp_schedule.specs.HeldRuns.{HeldRun}
 use Rattle.mctp_schedule.specs.Places.{BeginEach, Begins}
 use Rattle.mctp_schedule.specs.Running.{IsRunning, IsSide, MayCome}
 use Rattle.schedule_text.specs.Schedules.{AreKnown, NeverGoBack, is_known}
-use Rattle.mctp_schedule.specs.Worlds.{BothEnds, time_now, pace_of, timing_of, world}
+use Rattle.mctp_schedule.specs.Worlds.{BothEnds, time_now, timing_of, world}
+use Rattle.mctp_schedule.proofs.TimelyLogs.{keep_is}
 use Rattle.mctp_schedule.specs.declared.journal.Journal.{Journal}
 use Rattle.schedule_text.specs.declared.step.RequesterLine.{RequesterLine}
 use Rattle.schedule_text.specs.declared.step.Step.{Step}
@@ -29,11 +32,12 @@ pub record IsEmpty (journal : Journal) : Type 0 where
   pub order : journal.order.items ≡ []
   pub timely : journal.timely ≡ true
 
-pub begins : {P S : Type 0} (setting : BothEnds S) (run : HeldRun P S) → run.keep ≡ setting.keep → run.window ≡ setting.window → IsEid setting.eid → device_laws.NewLooksBack setting.device → device_laws.SameIsLeft setting.device
+pub begins : {P S : Type 0} (setting : BothEnds S) (run : HeldRun P S) → run.keep ≡ setting.keep → run.window ≡ setting.window → setting.pace ≡ at_default setting.keep → IsEid setting.eid → device_laws.NewLooksBack setting.device → device_laws.SameIsLeft setting.device
     → NewLooksBack → SameIsLeft → device_held.IsHeld (responder_stations.held_of run.responder) (device_held.held_at_first setting.eid All setting.window setting.keep setting.start) → BeginEach setting.eid setting.keep setting.requesters run.places → IsEmpty run.journal → ((source : ℕ) → ids_at run.arrivals source ≡ [])
     → IsRunning setting [] run
-begins setting run times window eid device_new device_same new same held each empty none_arrived = record {
+begins setting run times window paced eid device_new device_same new same held each empty none_arrived = record {
   times = times;
+  pace = paced;
   window = window;
   device = record {
     endpoint = eid;
@@ -59,7 +63,12 @@ begins setting run times window eid device_new device_same new same held each em
     side e s b = record {
       endpoint = b.endpoint;
       other = b.other;
-      left = same e setting.eid (timing_of setting e) (pace_of setting e) (held_of s.station) (held_at_first e setting.eid (timing_of setting e)) [] b.held (new e setting.eid (timing_of setting e) (pace_of setting e));
+      left =
+          let timing = timing_of setting e in
+          let goes : setting.pace ≡ at_default timing.keep = paced ∙ ap at_default (sym (keep_is setting e)) in
+          same e setting.eid timing setting.pace (held_of s.station) (paced_at_first e setting.eid timing setting.pace) []
+          (subst (λ pace. requester_held.IsHeld (held_of s.station) (paced_at_first e setting.eid timing pace)) (sym goes) b.held)
+          (new e setting.eid timing setting.pace);
       numbers = b.numbers;
       counted = refl;
       numbered = λ own k is. absurd (cc);

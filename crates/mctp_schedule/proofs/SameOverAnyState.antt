@@ -1,6 +1,6 @@
 -- Nothing on the link changes the device from outside, so what reached the responder has no state in it: when a
 -- delivery is fresh, and when a request first arrived, is the same over devices of any two states.
-use Rattle.std.proofs.Common.{◌≡◌, ℕ, ◌+◌, List, [], ◌∷◌, Some, None, Option, Bool, true, false, refl, sym, ap, ◌∙◌}
+use Rattle.std.proofs.Common.{◌≡◌, ℕ, ◌+◌, ◌*◌, ◌≤◌, List, [], ◌∷◌, Some, None, Option, Bool, true, false, refl, sym, ap, ◌∙◌, inl, inr, ⊎_elim}
 use Rattle.std.specs.Prelude.{not, nat_lt, bytes_eq, is_some, ◌&&◌, ◌==◌, if◌then◌else◌, map, take, option_map}
 use Rattle.std.specs.List.{take-map, list_any}
 use Rattle.pldm_wire.specs.Headers.{id_at}
@@ -9,7 +9,7 @@ use Rattle.mctp_schedule.specs.Logs.{Asked, Happening, Opened, Delivered, Sensed
 use Rattle.mctp_schedule.specs.FirstArrivals.{arrives, earlier, first, is_first}
 use Rattle.pldm_responder.specs.Recency.{of_number, renewed}
 use Rattle.pldm_responder.proofs.RecentFirst.{found_in_map, renewed_in_map}
-use Rattle.mctp_schedule.specs.Timely.{InTime, ids_arrived, with_first}
+use Rattle.mctp_schedule.specs.Timely.{AreApart, InTime, ids_arrived, is_in_window, with_first}
 use Rattle.pldm_wire.specs.declared.restart_policy.RestartPolicy.TheVariants.{All}
 
 -- ---- whether the responder is busy, and when a request first arrived
@@ -129,17 +129,33 @@ module _ (A B : Type 0) (window keep : ℕ) where
   same_ids (Sensed moment id value ∷ past) source = same_ids past source
   same_ids (WentDown moment ∷ past) source = same_ids past source
 
-  pub same_in_time : (log : List Happening) → InTime A window keep log → InTime B window keep log
-  same_in_time [] i = tt
-  same_in_time (Opened r ∷ past) i = same_in_time past i
-  same_in_time (Sensed moment id value ∷ past) i = same_in_time past i
-  same_in_time (WentDown moment ∷ past) i = same_in_time past i
-  same_in_time (Delivered moment k ∷ past) i = (
+  pub same_in_time : (lifetime : ℕ) (log : List Happening) → InTime A window keep lifetime log → InTime B window keep lifetime log
+  same_in_time lifetime [] i = tt
+  same_in_time lifetime (Opened r ∷ past) i = same_in_time lifetime past i
+  same_in_time lifetime (Sensed moment id value ∷ past) i = same_in_time lifetime past i
+  same_in_time lifetime (WentDown moment ∷ past) i = same_in_time lifetime past i
+  same_in_time lifetime (Delivered moment k ∷ past) i = (
     λ r e. record {
       soon = (i.0 r e).soon;
       in_window = λ came.
           ap (λ ids. list_any (λ id. id == id_at r.message) (take window ids)) (sym (same_ids past r.source))
           ∙ (i.0 r e).in_window (ap is_some (same_first A B keep past k) ∙ came);
     },
-    same_in_time past i.1,
+    same_in_time lifetime past i.1,
+  )
+
+  pub same_apart : (lifetime : ℕ) (log : List Happening) → AreApart A window keep lifetime log → AreApart B window keep lifetime log
+  same_apart lifetime [] a = tt
+  same_apart lifetime (Delivered moment k ∷ past) a = same_apart lifetime past a
+  same_apart lifetime (Sensed moment id value ∷ past) a = same_apart lifetime past a
+  same_apart lifetime (WentDown moment ∷ past) a = same_apart lifetime past a
+  same_apart lifetime (Opened r ∷ past) a = (
+    λ k q e s i. (
+      (a.0 k q e s i).0,
+      ⊎_elim
+          (λ (late : q.opening + 2 * keep ≤ r.opening). inl late)
+          (λ (out : is_in_window A window keep past r ≡ false). inr (ap (λ ids. list_any (λ id. id == id_at r.message) (take window ids)) (sym (same_ids past r.source)) ∙ out))
+          (a.0 k q e s i).1,
+    ),
+    same_apart lifetime past a.1,
   )

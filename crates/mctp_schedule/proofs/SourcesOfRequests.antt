@@ -6,7 +6,7 @@ use Rattle.std.specs.List.{AllByRecursion}
 use Rattle.pldm_requester.specs.Calls.{accepts}
 use Rattle.mctp_schedule.specs.Logs.{Asked, Happening, Opened, asked_at, count_of}
 use Rattle.schedule_text.specs.Schedules.{has_requester, is_known}
-use Rattle.mctp_schedule.specs.Worlds.{BothEnds, World, asked_by, busy_packet, done, reply_packet, requests_of, source_of, pace_of, timing_of, world}
+use Rattle.mctp_schedule.specs.Worlds.{BothEnds, World, asked_by, busy_packet, done, reply_packet, requests_of, source_of, timing_of, world}
 use Rattle.schedule_text.specs.declared.step.RequesterLine.{RequesterLine}
 use Rattle.schedule_text.specs.declared.step.Action.{Action}
 use Rattle.schedule_text.specs.declared.step.Action.TheVariants as actions
@@ -33,7 +33,7 @@ module _ {S : Type 0} (setting : BothEnds S) (P : ℕ → Type 0) where
   Sources w = (k : ℕ) (r : Asked) → asked_at w.log k ≡ Some r → P r.source
 
   sources_done : (w : World) (moment : ℕ) (action : Action) → OpensAt P action → Sources w → Sources (done setting w moment action)
-  sources_done w moment (actions.Open e command) here s k r is = go (accepts (timing_of setting e).keep (pace_of setting e) (requests_of setting w e) moment) is
+  sources_done w moment (actions.Open e command) here s k r is = go (accepts (timing_of setting e).keep setting.pace (requests_of setting w e) moment) is
     where
       go : (b : Bool) → asked_at (if b then Opened (asked_by setting w moment e command) ∷ w.log else w.log) k ≡ Some r → P r.source
       go false f = s k r f

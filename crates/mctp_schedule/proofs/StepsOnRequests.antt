@@ -13,7 +13,7 @@ use Rattle.pldm_requester.specs.Laws.{FoundOnItsTag}
 use Rattle.pldm_requester.specs.Numbering.{tag_of}
 use Rattle.pldm_requester.specs.declared.timing.Timing.{Timing}
 use Rattle.mctp_schedule.specs.Logs.{Asked, Happening}
-use Rattle.mctp_schedule.specs.Worlds.{BothEnds, World, requests_of, pace_of, timing_of, with_call}
+use Rattle.mctp_schedule.specs.Worlds.{BothEnds, World, requests_of, timing_of, with_call}
 use Rattle.mctp_schedule.proofs.AnswerPacketsAtRequester.{IsOf, Moved, nothing_moves, one_moves, put_here, put_other, with_arrival}
 use Rattle.mctp_schedule.proofs.KnownRequests.{Known}
 use Rattle.mctp_schedule.proofs.UntouchedRequests.{Kept, same_kept}
@@ -41,12 +41,12 @@ ticked_kept timing moment x y fed course = go (is_given_up timing moment x.cours
 
 module _ {S : Type 0} (setting : BothEnds S) (w : World) (log : List Happening) where
   abbrev at : ℕ → List Call → Requests
-  at d calls = requests d setting.eid (timing_of setting d) (pace_of setting d) calls
+  at d calls = requests d setting.eid (timing_of setting d) setting.pace calls
 
   abbrev pub called : ℕ → Call → World
   called e call = record { calls = with_call w.calls e call; log = log }
 
-  pub called_here : (e : ℕ) (call : Call) → requests_of setting (called e call) e ≡ after_call e setting.eid (timing_of setting e) (pace_of setting e) (requests_of setting w e) call
+  pub called_here : (e : ℕ) (call : Call) → requests_of setting (called e call) e ≡ after_call e setting.eid (timing_of setting e) setting.pace (requests_of setting w e) call
   called_here e call = ap (at e) (cond-true (e == e) (call ∷ w.calls e) (w.calls e) (eq-eqb e e refl))
 
   pub called_other : (e : ℕ) (call : Call) (d : ℕ) → d ≢ e → requests_of setting (called e call) d ≡ requests_of setting w d
@@ -64,13 +64,13 @@ module _ {S : Type 0} (setting : BothEnds S) (w : World) (log : List Happening) 
       accepted false = same_kept (a.each r.own) (a.each r.own) refl
 
       go : (b : Bool) → Kept (a.each r.own) ((at r.source (if b then Open moment command ∷ w.calls r.source else w.calls r.source)).each r.own)
-      go true = accepted (accepts (timing_of setting r.source).keep (pace_of setting r.source) a moment)
+      go true = accepted (accepts (timing_of setting r.source).keep setting.pace a moment)
       go false = same_kept (a.each r.own) (a.each r.own) refl
 
-  pub opens_new : (moment e : ℕ) (command : Command) → accepts (timing_of setting e).keep (pace_of setting e) (requests_of setting w e) moment ≡ true → (requests_of setting (called e (Open moment command)) e).each (requests_of setting w e).count ≡ new_request moment command
+  pub opens_new : (moment e : ℕ) (command : Command) → accepts (timing_of setting e).keep setting.pace (requests_of setting w e) moment ≡ true → (requests_of setting (called e (Open moment command)) e).each (requests_of setting w e).count ≡ new_request moment command
   opens_new moment e command ok =
       let a = requests_of setting w e in
-      ap (λ (b : Requests). b.each a.count) (called_here e (Open moment command) ∙ cond-true (accepts (timing_of setting e).keep (pace_of setting e) a moment) (opened a moment command) a ok)
+      ap (λ (b : Requests). b.each a.count) (called_here e (Open moment command) ∙ cond-true (accepts (timing_of setting e).keep setting.pace a moment) (opened a moment command) a ok)
       ∙ put_here a.each a.count (new_request moment command) a.count refl
 
   -- a tick
@@ -98,10 +98,10 @@ module _ {S : Type 0} (setting : BothEnds S) (w : World) (log : List Happening) 
     moves : is_open_at before q.own ≡ true → Moved before (requests_of setting then_at q.source) q.own (with_arrival (before.each q.own) p arrival)
     moves opens =
         subst (λ (b : Requests). Moved before b q.own (with_arrival (before.each q.own) p arrival)) (sym (called_here q.source (Receive moment bytes)))
-        (one_moves q.source setting.eid timing (pace_of setting q.source) (w.calls q.source) found q.own known.within near p bytes reads from tag opens arrival own (brings opens))
+        (one_moves q.source setting.eid timing setting.pace (w.calls q.source) found q.own known.within near p bytes reads from tag opens arrival own (brings opens))
 
     rests : is_open_at before q.own ≡ false → requests_of setting then_at q.source ≡ before
-    rests shut = called_here q.source (Receive moment bytes) ∙ nothing_moves q.source setting.eid timing (pace_of setting q.source) (w.calls q.source) found q.own known.within near p bytes reads from tag shut
+    rests shut = called_here q.source (Receive moment bytes) ∙ nothing_moves q.source setting.eid timing setting.pace (w.calls q.source) found q.own known.within near p bytes reads from tag shut
 
     pub comes_to_it : is_open_at before q.own ≡ true → (requests_of setting then_at q.source).each q.own ≡ with_arrival (before.each q.own) p arrival
     comes_to_it opens = (moves opens).here

@@ -24,20 +24,20 @@ module _ {S : Type 0} (setting : BothEnds S) where
   within_tested true within h = h refl
   within_tested false within h = refl
 
-  in_time_holds : (log : List Happening) (moment k : ℕ) (o : Option Asked) → comes_in_time setting log moment k o ≡ true → (r : Asked) → o ≡ Some r → ComesInTime S setting.window setting.keep log moment k r
+  in_time_holds : (log : List Happening) (moment k : ℕ) (o : Option Asked) → comes_in_time setting log moment k o ≡ true → (r : Asked) → o ≡ Some r → ComesInTime S setting.window setting.keep setting.pace.lifetime log moment k r
   in_time_holds log moment k None t r e = absurd (cc)
   in_time_holds log moment k (Some q) t r e =
       let parts = and_parts _ _ t in
-      same (ComesInTime S setting.window setting.keep log moment k) q
+      same (ComesInTime S setting.window setting.keep setting.pace.lifetime log moment k) q
       (record {
-        soon = ltb-true moment (q.opening + setting.keep) parts.0;
+        soon = ltb-true moment (q.opening + setting.pace.lifetime) parts.0;
         in_window = within_holds (has_arrived S setting.keep log k) (is_in_window S setting.window setting.keep log q) parts.1;
       }) r e
 
-  in_time_tested : (log : List Happening) (moment k : ℕ) (o : Option Asked) → ((r : Asked) → o ≡ Some r → ComesInTime S setting.window setting.keep log moment k r) → comes_in_time setting log moment k o ≡ true
+  in_time_tested : (log : List Happening) (moment k : ℕ) (o : Option Asked) → ((r : Asked) → o ≡ Some r → ComesInTime S setting.window setting.keep setting.pace.lifetime log moment k r) → comes_in_time setting log moment k o ≡ true
   in_time_tested log moment k None h = refl
   in_time_tested log moment k (Some q) h =
-      and_from _ _ (lt-ltb moment (q.opening + setting.keep) (h q refl).soon)
+      and_from _ _ (lt-ltb moment (q.opening + setting.pace.lifetime) (h q refl).soon)
       (within_tested (has_arrived S setting.keep log k) (is_in_window S setting.window setting.keep log q) (h q refl).in_window)
 
   own_holds : (w : World) (o : Option Asked) → tag_is_own setting w o ≡ true → (r : Asked) → o ≡ Some r → (requests_of setting w r.source).count ≤ r.own + TAGS

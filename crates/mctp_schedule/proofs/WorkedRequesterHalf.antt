@@ -15,6 +15,7 @@ use Rattle.pldm_wire.specs.declared.size.Size.TheVariants.{Uint8}
 use Rattle.pldm_platform.specs.declared.platform.ReadingFault.TheVariants.{NoSuchSensor}
 use Rattle.pldm_responder.proofs.WorkedLight.{light_answer, light_after, light_sensed}
 use Rattle.pldm_responder.specs.Performing.{Rules, rules_of}
+use Rattle.pldm_requester.specs.Pacing.{at_default}
 use Rattle.pldm_requester.specs.Courses as progresses
 use Rattle.pldm_requester.specs.Courses.{Progress}
 use Rattle.pldm_requester.specs.declared.results.Got.TheVariants.{Dropped, Partial, Answered}
@@ -44,6 +45,7 @@ long = record {
   keep = 1000;
   window = 32;
   requesters = record { eid = 8; timeout = 200; tries = 3 } ∷ [];
+  pace = at_default 1000;
 }
 
 abbrev asked : List Step
@@ -127,6 +129,7 @@ light = record {
   keep = 1000;
   window = 32;
   requesters = record { eid = 8; timeout = 200; tries = 5 } ∷ [];
+  pace = at_default 1000;
 }
 
 abbrev set_40 : Action
@@ -216,6 +219,7 @@ gauge = record {
   keep = 1000;
   window = 32;
   requesters = record { eid = 8; timeout = 200; tries = 3 } ∷ [];
+  pace = at_default 1000;
 }
 
 abbrev two_readings : List Step

@@ -10,6 +10,7 @@ use Rattle.pldm_wire.specs.declared.command.Command.{Command}
 use Rattle.pldm_wire.specs.declared.command.Command.TheVariants.{GetTid, GetPdr, SetNumericEffecterValue}
 use Rattle.pldm_responder.proofs.WorkedLight.{light_answer, light_after, light_sensed}
 use Rattle.pldm_responder.specs.Performing.{rules_of}
+use Rattle.pldm_requester.specs.Pacing.{at_default}
 use Rattle.pldm_requester.specs.Courses.{Progress, Waiting, Answered, GaveUp}
 use Rattle.mctp_schedule.specs.FirstArrivals.{order}
 use Rattle.mctp_schedule.specs.Logs.{count_of}
@@ -31,6 +32,7 @@ setting = record {
   keep = 1000;
   window = 32;
   requesters = record { eid = 8; timeout = 200; tries = 5 } ∷ [];
+  pace = at_default 1000;
 }
 
 abbrev set_40 : Action

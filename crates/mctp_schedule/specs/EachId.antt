@@ -64,11 +64,11 @@ module _ {S : Type 0} (setting : BothEnds S) where
   world [] = record { calls = λ e. []; log = [] }
   world (step ∷ past) = done (world past) step.moment step.action
 
-  -- a request comes less than the keeping time after it was opened, and a packet of an answer while its tag was not
+  -- a request comes less than the lifetime after it was opened, and a packet of an answer while its tag was not
   -- used again
   abbrev pub IsTimelyAction : World → ℕ → Action → Type 0
   IsTimelyAction world moment (Request k) =
-      (r : Asked) → asked_at world.log k ≡ Some r → moment < r.opening + setting.keep
+      (r : Asked) → asked_at world.log k ≡ Some r → moment < r.opening + setting.pace.lifetime
   IsTimelyAction world moment (Reply j k) =
       (bytes : List ℕ) → reply_packet world k j ≡ Some bytes → TagIsOwn setting world k
   IsTimelyAction world moment (Busy k) =

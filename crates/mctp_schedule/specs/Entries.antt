@@ -14,7 +14,7 @@ use Rattle.mctp_schedule.specs.HandedPackets.{got_of_busy, got_of_reply}
 use Rattle.mctp_schedule.specs.Logs as logs
 use Rattle.mctp_schedule.specs.Logs.{Asked, Happening, asked_at, count_of, message_at, reached}
 use Rattle.mctp_schedule.specs.Requests.{Request as EndedRequest}
-use Rattle.mctp_schedule.specs.Worlds.{BothEnds, World, requests_of, pace_of, timing_of, world}
+use Rattle.mctp_schedule.specs.Worlds.{BothEnds, World, requests_of, timing_of, world}
 use Rattle.mctp_schedule.specs.declared.entry.Entry.{Entry}
 use Rattle.mctp_schedule.specs.declared.entry.Entry.TheVariants.{Nothing, Opened, NotOpened, Due, Delivered, Received, Sensed, Restarted}
 use Rattle.schedule_text.specs.declared.step.Action.{Action}
@@ -54,7 +54,7 @@ module _ {S : Type 0} (setting : BothEnds S) where
       let numbers = numbers_of world.log e in
       let calls = world.calls e in
       let timing = timing_of setting e in
-      let pace = pace_of setting e in
+      let pace = setting.pace in
       record {
         again = record { items = numbered numbers (again_expected e setting.eid timing pace calls moment) };
         given_up = record { items = numbered numbers (given_up_expected e setting.eid timing pace calls moment) };
@@ -77,7 +77,7 @@ module _ {S : Type 0} (setting : BothEnds S) where
   abbrev pub entry_of : World → ℕ → Action → Entry
   entry_of world moment (actions.Open e command) =
       open_entry (count_of world.log)
-      (open_expected e setting.eid (timing_of setting e) (pace_of setting e) (world.calls e) moment)
+      (open_expected e setting.eid (timing_of setting e) setting.pace (world.calls e) moment)
   entry_of world moment (actions.Tick e) = Due (due_at world moment e)
   entry_of world moment (actions.Request k) = delivery_entry world.log moment (asked_at world.log k)
   entry_of world moment (actions.Reply j k) = got_entry (got_of_reply setting world k j)

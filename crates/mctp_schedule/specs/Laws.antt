@@ -4,15 +4,24 @@ use Rattle.std.specs.Prelude.{◌≡◌, ◌≤◌, ◌↔◌, ℕ, true, List}
 use Rattle.pldm_wire.specs.declared.assigned.TheConstants.{INSTANCE_IDS}
 use Rattle.mctp_schedule.specs.EachId as each_id
 use Rattle.mctp_schedule.specs.Logs.{Happening}
+use Rattle.mctp_schedule.specs.RequesterHalf.{IsTimelySchedule}
 use Rattle.mctp_schedule.specs.Timely.{IsTimelyLog}
 use Rattle.mctp_schedule.specs.Worlds.{IsTimely, NeverWentBack, BothEnds, is_timely, world}
 use Rattle.schedule_text.specs.declared.step.Step.{Step}
 
--- over a timely schedule the log of the link is timely: what the device's half rests on
+-- over a timely schedule the log of the link is timely, where the requesters go by the keeping time alone: what the
+-- device's half rests on
 abbrev pub LogIsTimely : {S : Type 0} → BothEnds S → Type 0
 LogIsTimely {S} setting =
     (steps : List Step) → NeverWentBack steps → IsTimely setting steps
-    → IsTimelyLog S setting.window setting.keep (world setting steps).log
+    → setting.pace.lifetime ≡ setting.keep
+    → IsTimelyLog S setting.window setting.keep setting.pace.lifetime (world setting steps).log
+
+-- and so it is at every pace that suits the device
+abbrev pub PacedLogIsTimely : {S : Type 0} → BothEnds S → Type 0
+PacedLogIsTimely {S} setting =
+    (steps : List Step) → IsTimelySchedule setting steps
+    → IsTimelyLog S setting.window setting.keep setting.pace.lifetime (world setting steps).log
 
 -- the test of a timely schedule holds exactly where it is timely
 abbrev pub TimelyIsTested : {S : Type 0} → BothEnds S → Type 0
@@ -22,7 +31,7 @@ TimelyIsTested setting = (steps : List Step) → (is_timely setting steps ≡ tr
 abbrev pub AllIdsAreInTime : Type 0 → Type 0
 AllIdsAreInTime S =
     (window keep : ℕ) (log : List Happening) → INSTANCE_IDS ≤ window
-    → (IsTimelyLog S window keep log ↔ each_id.IsTimelyLog keep log)
+    → (IsTimelyLog S window keep keep log ↔ each_id.IsTimelyLog keep log)
 
 -- both ends do the same, and the same schedules are timely
 abbrev pub AllIdsAreNoWindow : {S : Type 0} → BothEnds S → Type 0

@@ -17,6 +17,7 @@ pub mod Journals
 pub mod Laws
 pub mod Logs
 pub mod OncePerformed
+pub mod PacedHeadline
 pub mod PerformedCommands
 pub mod Places
 pub mod Reports

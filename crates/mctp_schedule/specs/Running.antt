@@ -8,6 +8,7 @@ use Rattle.pldm_responder.specs.Performing.{Rules, busy_reply}
 use Rattle.pldm_responder.specs.ResponderViews as responder_stations
 use Rattle.pldm_wire.specs.declared.restart_policy.RestartPolicy.TheVariants.{All}
 use Rattle.pldm_wire.specs.declared.command.Command.{Command}
+use Rattle.pldm_requester.specs.Pacing.{at_default}
 use Rattle.pldm_requester.specs.Laws as requester_laws
 use Rattle.pldm_requester.specs.Slots.{held_of}
 use Rattle.mctp_schedule.specs.Askers.{Side, packet_bytes}
@@ -23,7 +24,7 @@ use Rattle.mctp_schedule.specs.PerformedCommands.{commands_at_step}
 use Rattle.mctp_schedule.specs.Places.{side_at}
 use Rattle.mctp_schedule.specs.Timely.{ids_arrived}
 use Rattle.schedule_text.specs.Schedules.{has_requester, is_known}
-use Rattle.mctp_schedule.specs.Worlds.{BothEnds, World, answer_packets, is_timely, requests_of, time_now, pace_of, timing_of, world}
+use Rattle.mctp_schedule.specs.Worlds.{BothEnds, World, answer_packets, is_timely, requests_of, time_now, timing_of, world}
 use Rattle.mctp_schedule.specs.declared.entry.Entry.{Entry}
 use Rattle.schedule_text.specs.declared.step.RequesterLine.{RequesterLine}
 use Rattle.schedule_text.specs.declared.step.Action.{Action}
@@ -57,7 +58,7 @@ pub record IsOpened {S : Type 0} (setting : BothEnds S) (w : World) (k : ℕ) (r
 pub record IsSide {S : Type 0} (setting : BothEnds S) (w : World) (now e : ℕ) (side : Side) : Type 0 where
   pub endpoint : IsEid e
   pub other : e ≢ setting.eid
-  pub left : requester_laws.IsLeftBy e setting.eid (timing_of setting e) (pace_of setting e) (held_of side.station) (w.calls e)
+  pub left : requester_laws.IsLeftBy e setting.eid (timing_of setting e) setting.pace (held_of side.station) (w.calls e)
   pub numbers : side.numbers ≡ numbers_of w.log e
   pub counted : length (numbers_of w.log e) ≡ (requests_of setting w e).count
   pub numbered : (own k : ℕ) → slice_get (numbers_of w.log e) own ≡ Some k
@@ -98,6 +99,7 @@ pub record IsCarried {S : Type 0}
 pub record IsRunning {P S : Type 0} (setting : BothEnds S) (past : List Step) (run : HeldRun P S) : Type 0 where
   pub times : run.keep ≡ setting.keep
   pub window : run.window ≡ setting.window
+  pub pace : setting.pace ≡ at_default setting.keep
   pub device : IsDevice setting (world setting past) (time_now past) run.responder
   pub sides : (e : ℕ) → has_requester setting.requesters e ≡ true
       → (side : Side) × (side_at run.places e ≡ Some side) × IsSide setting (world setting past) (time_now past) e side
@@ -134,6 +136,7 @@ setting_of device terms = record {
   keep = terms.keep;
   window = terms.window;
   requesters = terms.requesters;
+  pace = at_default terms.keep;
 }
 
 -- a step may come after these: its moment does not go back, and its requester has a line

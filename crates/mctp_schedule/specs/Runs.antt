@@ -2,6 +2,7 @@
 use Rattle.std.specs.Prelude.{ℕ, List, reverse}
 use Rattle.pldm_wire.specs.declared.restart_policy.RestartPolicy.TheVariants.{All}
 use Rattle.pldm_responder.specs.Performing.{Rules, performed}
+use Rattle.pldm_requester.specs.Pacing.{at_default}
 use Rattle.mctp_schedule.specs.Logs.{reached}
 use Rattle.schedule_text.specs.Schedules.{Spelled}
 use Rattle.mctp_schedule.specs.Worlds.{BothEnds, World, world}
@@ -16,6 +17,7 @@ setting_of_run device start eid keep window schedule = record {
   keep = keep;
   window = window;
   requesters = schedule.requesters;
+  pace = at_default keep;
 }
 
 -- a schedule has its oldest step first

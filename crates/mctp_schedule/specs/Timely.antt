@@ -1,10 +1,10 @@
 -- Which deliveries a window of instance IDs allows for: a log of which a responder with a window performs each request
 -- once.
-use Rattle.std.specs.Prelude.{◌≡◌, ℕ, ◌+◌, ◌<◌, ◌==◌, ◌&&◌, Bool, true, List, [], ◌∷◌, take, Option, Some, None, if◌then◌else◌}
+use Rattle.std.specs.Prelude.{◌≡◌, ◌⊎◌, ℕ, ◌+◌, ◌*◌, ◌<◌, ◌≤◌, ◌==◌, ◌&&◌, Bool, true, false, List, [], ◌∷◌, take, Option, Some, None, if◌then◌else◌}
 use Rattle.std.specs.List.{list_any}
 use Rattle.pldm_wire.specs.Headers.{id_at}
 use Rattle.mctp_schedule.specs.FirstArrivals.{has_arrived, is_first}
-use Rattle.mctp_schedule.specs.Logs.{Asked, Happening, Delivered, InOrder, Apart, asked_at}
+use Rattle.mctp_schedule.specs.Logs.{Asked, Happening, Opened, Delivered, InOrder, asked_at}
 use Rattle.pldm_responder.specs.Recency.{renewed}
 
 -- one instance ID is put in front, where a first arrival is of this source
@@ -28,21 +28,39 @@ module _ (S : Type 0) where
   is_in_window window keep past r =
       list_any (λ id. id == id_at r.message) (take window (ids_arrived keep past r.source))
 
-  -- request k, which is r, comes in time: less than the keeping time after it was opened and, where it has arrived
-  -- before, in the window
-  pub record ComesInTime (window keep : ℕ) (past : List Happening) (moment k : ℕ) (r : Asked) : Type 0 where
-    pub soon : moment < r.opening + keep
+  -- r's source uses its instance ID again: twice the lifetime or more after each other request with it was opened, and
+  -- less than twice the keeping time after only where the instance ID is out of the window
+  abbrev pub ComesFree : (window keep lifetime : ℕ) → Asked → List Happening → Type 0
+  ComesFree window keep lifetime r past =
+      (k : ℕ) (q : Asked) → asked_at past k ≡ Some q → q.source ≡ r.source → id_at q.message ≡ id_at r.message
+      → (q.opening + 2 * lifetime ≤ r.opening)
+      × ((q.opening + 2 * keep ≤ r.opening) ⊎ (is_in_window window keep past r ≡ false))
+
+  -- each source uses each instance ID again so
+  abbrev pub AreApart : (window keep lifetime : ℕ) → List Happening → Type 0
+  AreApart window keep lifetime [] = Unit {0}
+  AreApart window keep lifetime (Opened r ∷ past) =
+      ComesFree window keep lifetime r past × AreApart window keep lifetime past
+  AreApart window keep lifetime (_ ∷ past) = AreApart window keep lifetime past
+
+  -- request k, which is r, comes in time: less than the lifetime after it was opened and, where it has arrived before,
+  -- in the window
+  pub record ComesInTime (window keep lifetime : ℕ) (past : List Happening) (moment k : ℕ) (r : Asked) : Type 0 where
+    pub soon : moment < r.opening + lifetime
     pub in_window : has_arrived S keep past k ≡ true → is_in_window window keep past r ≡ true
 
   -- each delivery does
-  abbrev pub InTime : (window keep : ℕ) → List Happening → Type 0
-  InTime window keep [] = Unit {0}
-  InTime window keep (Delivered moment k ∷ past) =
-      ((r : Asked) → asked_at past k ≡ Some r → ComesInTime window keep past moment k r) × InTime window keep past
-  InTime window keep (_ ∷ past) = InTime window keep past
+  abbrev pub InTime : (window keep lifetime : ℕ) → List Happening → Type 0
+  InTime window keep lifetime [] = Unit {0}
+  InTime window keep lifetime (Delivered moment k ∷ past) =
+      ((r : Asked) → asked_at past k ≡ Some r → ComesInTime window keep lifetime past moment k r)
+      × InTime window keep lifetime past
+  InTime window keep lifetime (_ ∷ past) = InTime window keep lifetime past
 
-  -- moments never go back, instance IDs are used again after twice the keeping time, and deliveries come in time
-  pub record IsTimelyLog (window keep : ℕ) (log : List Happening) : Type 0 where
+  -- moments never go back, instance IDs are used again so late, and deliveries come in time; the line's lifetime is no
+  -- longer than the keeping time
+  pub record IsTimelyLog (window keep lifetime : ℕ) (log : List Happening) : Type 0 where
     pub order : InOrder log
-    pub apart : Apart keep log
-    pub in_time : InTime window keep log
+    pub apart : AreApart window keep lifetime log
+    pub in_time : InTime window keep lifetime log
+    pub within : lifetime ≤ keep

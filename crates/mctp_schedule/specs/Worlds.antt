@@ -8,7 +8,6 @@ use Rattle.pldm_responder.specs.Performing.{Rules, busy_reply}
 use Rattle.pldm_requester.specs.Calls as requester
 use Rattle.pldm_requester.specs.Calls.{accepts, requests}
 use Rattle.pldm_requester.specs.Numbering.{message_of}
-use Rattle.pldm_requester.specs.Pacing.{at_default}
 use Rattle.pldm_requester.specs.declared.pace.Pace.{Pace}
 use Rattle.pldm_requester.specs.declared.timing.Timing.{Timing}
 use Rattle.mctp_schedule.specs.FirstArrivals.{has_arrived}
@@ -27,7 +26,7 @@ pub record World : Type 0 where
   pub log : List Happening
 
 -- what both ends are made of: the device's rules, its first state and its endpoint ID, the keeping time of both ends,
--- the device's window of instance IDs, and the requesters of the schedule
+-- the device's window of instance IDs, the requesters of the schedule, and their pace
 pub record BothEnds (S : Type 0) : Type 0 where
   pub device : Rules S
   pub start : S
@@ -35,6 +34,7 @@ pub record BothEnds (S : Type 0) : Type 0 where
   pub keep : ℕ
   pub window : ℕ
   pub requesters : List RequesterLine
+  pub pace : Pace
 
 abbrev pub timing_from : ℕ → Option RequesterLine → Timing
 timing_from keep None = record { keep = keep; timeout = 0; tries = 0 }
@@ -43,10 +43,6 @@ timing_from keep (Some line) = record { keep = keep; timeout = line.timeout; tri
 -- the timing of the requester at an endpoint
 abbrev pub timing_of : {S : Type 0} → BothEnds S → ℕ → Timing
 timing_of setting e = timing_from setting.keep (find (is_requester e) setting.requesters)
-
--- its pace: it goes by the keeping time
-abbrev pub pace_of : {S : Type 0} → BothEnds S → ℕ → Pace
-pace_of setting e = at_default (timing_of setting e).keep
 
 -- one more call of the requester at endpoint e
 abbrev pub with_call : (ℕ → List requester.Call) → ℕ → requester.Call → ℕ → List requester.Call
@@ -63,7 +59,7 @@ answer_packets own r message = packets_back own (message_at r.opening r) message
 module _ {S : Type 0} (setting : BothEnds S) where
   -- the requests of the requester at an endpoint
   abbrev pub requests_of : World → ℕ → requester.Requests
-  requests_of world e = requests e setting.eid (timing_of setting e) (pace_of setting e) (world.calls e)
+  requests_of world e = requests e setting.eid (timing_of setting e) setting.pace (world.calls e)
 
   -- the request that an accepted open makes
   abbrev pub asked_by : World → ℕ → ℕ → Command → Asked
@@ -74,7 +70,7 @@ module _ {S : Type 0} (setting : BothEnds S) where
   -- an open happens on the link where the requester accepts it
   abbrev pub log_opened : World → ℕ → ℕ → Command → List Happening
   log_opened world moment e command =
-      if accepts (timing_of setting e).keep (pace_of setting e) (requests_of world e) moment
+      if accepts (timing_of setting e).keep setting.pace (requests_of world e) moment
       then Opened (asked_by world moment e command) ∷ world.log
       else world.log
 
@@ -132,7 +128,7 @@ module _ {S : Type 0} (setting : BothEnds S) where
   -- a request comes in time, and a packet of an answer while its tag was not used again
   abbrev pub IsTimelyAction : World → ℕ → Action → Type 0
   IsTimelyAction world moment (Request k) =
-      (r : Asked) → asked_at world.log k ≡ Some r → ComesInTime S setting.window setting.keep world.log moment k r
+      (r : Asked) → asked_at world.log k ≡ Some r → ComesInTime S setting.window setting.keep setting.pace.lifetime world.log moment k r
   IsTimelyAction world moment (Reply j k) = (bytes : List ℕ) → reply_packet world k j ≡ Some bytes → TagIsOwn world k
   IsTimelyAction world moment (Busy k) = (bytes : List ℕ) → busy_packet world k ≡ Some bytes → TagIsOwn world k
   IsTimelyAction world moment (Open e command) = Unit {0}
@@ -161,7 +157,7 @@ module _ {S : Type 0} (setting : BothEnds S) where
   abbrev pub comes_in_time : List Happening → ℕ → ℕ → Option Asked → Bool
   comes_in_time log moment k None = true
   comes_in_time log moment k (Some r) =
-      nat_lt moment (r.opening + setting.keep)
+      nat_lt moment (r.opening + setting.pace.lifetime)
       && (not (has_arrived S setting.keep log k) || is_in_window S setting.window setting.keep log r)
 
   abbrev pub tag_is_own : World → Option Asked → Bool

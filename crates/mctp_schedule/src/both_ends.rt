@@ -18,7 +18,8 @@ use crate::arrivals::{Arrivals, instance_id};
 use crate::askers::MAX_REQUEST_PACKET_BYTES;
 use crate::journal::Journal;
 use crate::laws::{
-    fresh_deliveries_are_first, logs_are_timely, performs_once, requesters_take_the_one_reply,
+    fresh_deliveries_are_first, logs_are_timely, paced_logs_are_timely, performs_once,
+    requesters_take_the_one_reply,
 };
 use crate::places::{Places, begin_requesters};
 use crate::{ActionRef, Entries, Entry, OpenedRequest, RunFault, Schedule, StepRef};
@@ -102,6 +103,7 @@ pub fn run<'a, P: Platform>(
     fresh_deliveries_are_first::<P>();
     performs_once::<P>();
     logs_are_timely::<P>();
+    paced_logs_are_timely::<P>();
     requesters_take_the_one_reply::<P>();
     let Setup {
         eid,

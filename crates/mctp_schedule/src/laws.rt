@@ -3,7 +3,8 @@
 ghost use Rattle.pldm_responder.specs.Performing.{rules_of};
 ghost use Rattle.mctp_schedule.specs.BothWays.{EachWayIsInOrder, EachWayPerformsOnce, EachWayTakesTheOneReply};
 ghost use Rattle.mctp_schedule.specs.InWindow.{InWindowByTheRule};
-ghost use Rattle.mctp_schedule.specs.Laws.{AllIdsAreInTime, AllIdsAreNoWindow, LogIsTimely, TimelyIsTested};
+ghost use Rattle.mctp_schedule.specs.PacedHeadline.{HeadlineAtEveryPace};
+ghost use Rattle.mctp_schedule.specs.Laws.{AllIdsAreInTime, AllIdsAreNoWindow, LogIsTimely, PacedLogIsTimely, TimelyIsTested};
 ghost use Rattle.mctp_schedule.specs.Worlds.{BothEnds};
 ghost use Rattle.mctp_schedule.specs.RequesterHalf.{AnsweredWasPerformed, AnsweredWhereTaken, BusyIsExpected, OwnAssembly, OwnDeliveries, ReplyIsExpected, TakenOnce};
 ghost use Rattle.mctp_schedule.specs.DeviceHalf.{DeliveryIsExpected, FreshInOrderOfFirsts, FreshWhereFirst, GivenIsTheReply, NoneOpenedSince, NotPerformedAgain, StateIsOnce, TheReplyFits};
@@ -29,12 +30,24 @@ pub fn performs_once<P: Platform>()
     ensures fits { TheReplyFits (rules_of P.answer P.after P.sensed) }
 {}
 
-/// Over a timely schedule the log of what happened on the link is timely, so the laws of [`fresh_deliveries_are_first`]
-/// and [`performs_once`] hold of it; and the test of a timely schedule says exactly whether the schedule is timely.
+/// Over a timely schedule whose requesters go by the keeping time the log of what happened on the link is timely, so the
+/// laws of [`fresh_deliveries_are_first`] and [`performs_once`] hold of it; and the test of a timely schedule says exactly
+/// whether the schedule is timely.
 pub fn logs_are_timely<P: Platform>()
     ensures log { (setting : BothEnds P.State) → LogIsTimely setting }
     ensures tested { (setting : BothEnds P.State) → TimelyIsTested setting }
 {
+    pldm_requester::laws::instance_ids_are_apart();
+}
+
+/// The same at every pace that suits the device, where the requests can be read and the replies fit packets: an instance
+/// ID that is used again before twice the keeping time is out of the device's window.
+pub fn paced_logs_are_timely<P: Platform>()
+    ensures { (setting : BothEnds P.State) → PacedLogIsTimely setting }
+{
+    mctp_packet::laws::split_packets_read_back();
+    pldm_wire::laws::messages_are_told_apart();
+    pldm_requester::laws::one_open_on_each_tag();
     pldm_requester::laws::instance_ids_are_apart();
 }
 
@@ -69,6 +82,18 @@ pub fn requesters_take_the_one_reply<P: Platform>()
     pldm_requester::laws::instance_ids_are_apart();
 }
 
+/// The headline at every pace that suits the device: a lifetime no longer than the keeping time, and a window no smaller
+/// than the device's. Over a timely schedule what both ends do is the headline, also where an instance ID was used again
+/// before twice the keeping time had passed.
+pub fn headline_at_every_pace<P: Platform>()
+    ensures { (setting : BothEnds P.State) → HeadlineAtEveryPace setting }
+{
+    mctp_packet::laws::split_packets_read_back();
+    pldm_wire::laws::messages_are_told_apart();
+    pldm_requester::laws::one_open_on_each_tag();
+    pldm_requester::laws::instance_ids_are_apart();
+}
+
 /// Of a link whose two ends both answer and ask: where moments never go back over both directions, they do not in
 /// either.
 pub fn each_way_is_in_order()
@@ -88,8 +113,8 @@ pub fn each_way_takes_the_one_reply<P: Platform, Q: Platform>()
 pub fn each_way_performs_once<P: Platform, Q: Platform>()
     ensures { EachWayPerformsOnce (rules_of P.answer P.after P.sensed) (rules_of Q.answer Q.after Q.sensed) }
 {
-    logs_are_timely::<P>();
-    logs_are_timely::<Q>();
+    paced_logs_are_timely::<P>();
+    paced_logs_are_timely::<Q>();
     performs_once::<P>();
     performs_once::<Q>();
 }

@@ -41,7 +41,7 @@ loop-step-init g c =
             journal = c.in_ok-new.field-0;
             arrivals = c.new-2.result;
           })
-          refl refl c.get-range.ensures.range c.looks_back.ensures.new c.looks_back.ensures.same c.looks_back-2.ensures.new c.looks_back-2.ensures.same c.begin_device.ensures.held
+          refl refl refl c.get-range.ensures.range c.looks_back.ensures.new c.looks_back.ensures.same c.looks_back-2.ensures.new c.looks_back-2.ensures.same c.begin_device.ensures.held
           (subst (λ lines. BeginEach c.args.setup.eid c.args.setup.keep lines c.in_ok-begin_requesters.field-0.items) c.requesters.ensures.value begun)
           (record { entries = empty.entries; requests = empty.requests; traffic = empty.traffic; order = empty.order; timely = empty.timely })
           c.new-2.ensures;
@@ -95,7 +95,7 @@ returns-clause-report g c =
     let both = c.requesters_take_the_one_reply.ensures in
     let once = c.performs_once.ensures in
     let halves : Halves setting = record {
-      log = c.logs_are_timely.ensures.log setting;
+      log = c.paced_logs_are_timely.ensures setting;
       tested = c.logs_are_timely.ensures.tested setting;
       state = once.state;
       delivery = once.delivery;
