@@ -10,6 +10,7 @@ import tempfile
 import time
 
 from rows_explain import BYTE, COMMANDS, ID, SIZES, STATE, UINT8
+from rows_state import state
 from support.askers import ENDS, TIMES, Place
 from support.frames import frame, read_frames
 from support.programs import PIPES, SECONDS
@@ -17,6 +18,14 @@ from support.terminals import Terminal
 
 SILENT = {**PIPES, "stdin": subprocess.DEVNULL}
 MORE = "\n\nFor more information, try '--help'.\n"
+
+NO_WINDOW, NO_LIFETIME, NO_TIMEOUT = (
+    f"invalid value for '--{option}'" for option in ("window <N>", "lifetime <MS>", "timeout <MS>")
+)
+LONG, PAST = "the lifetime is longer than the keeping time", "the tries take longer than the lifetime"
+
+# A keeping time that is shorter than the lifetime with a window.
+FAST = ("--keep", "249", "--timeout", "80")
 
 SETTLING = 1.0  # the seconds before the first request, by these times
 
@@ -118,6 +127,14 @@ def refused(rows, place):
         ("a timeout of 0", (*ENDS, "--timeout", "0", "gettid"), "the timeout is 0"),
         ("no tries", (*ENDS, "--tries", "0", "gettid"), "the tries are not 1 to 8"),
         ("the device itself", ("--own", "9", "--device", "9", "gettid"), "the device has the same endpoint ID"),
+        ("a window of 0", (*ENDS, "--window", "0", "gettid"), f"{NO_WINDOW}: the window is not 1 to 32"),
+        ("a window of 33", (*ENDS, "--window", "33", "gettid"), NO_WINDOW),
+        ("a lifetime of 0", (*ENDS, "--lifetime", "0", "gettid"), f"{NO_LIFETIME}: the lifetime is 0"),
+        ("a lifetime that is no number", (*ENDS, "--lifetime", "x", "gettid"), NO_LIFETIME),
+        ("a lifetime that is too long", (*ENDS, "--lifetime", "7000", "gettid"), f"{NO_LIFETIME}: {LONG}"),
+        ("a lifetime that is not given", (*ENDS, *FAST, "--window", "8", "gettid"), f"{NO_LIFETIME}: {LONG}"),
+        ("tries past the lifetime", (*ENDS, "--window", "8", "--timeout", "84", "gettid"), f"{NO_TIMEOUT}: {PAST}"),
+        ("more tries than milliseconds", (*ENDS, "--lifetime", "2", "gettid"), f"{NO_LIFETIME}: {PAST}"),
         ("no command", ENDS, none),
         ("a command and a file", (*ENDS, "--file", commands, "gettid"), none),
         ("a comment for a command", (*ENDS, "# gettid"), none),
@@ -152,6 +169,24 @@ def refused(rows, place):
         path = os.path.join(place.folder, "none") if text is None else place.write("commands", text)
         ran = place.run("ask", "--line", "/dev/null", *ENDS, "--file", path)
         rows.check(f"asked: {name}", ran == (status, b"", f"mctpctl: {path}: {line}\n".encode()), repr(ran))
+
+
+def paced(rows, place):
+    """The tries share a lifetime that is shorter than the keeping time: three of 83 ms, or of 2,000 ms at most."""
+    for words, tries, least, most in (
+        (("--window", "8"), 3, 0.249, 2),
+        (("--window", "8", "--tries", "1"), 1, 0.25, 2),
+        (("--lifetime", "600", "--tries", "2"), 2, 0.6, 2.3),
+        (("--lifetime", "5000", "--tries", "1"), 1, 2.0, 4),
+        (("--window", "8", "--timeout", "125", "--tries", "2"), 2, 0.25, 2),
+    ):
+        known = place.write("state", state(0, []))  # nothing was asked, so the first request goes out at once
+        with Terminal() as terminal:
+            began = time.monotonic()
+            ran = place.run("ask", "--line", terminal.name, *ENDS, "--state", known, *words, "gettid")
+            passed, sent = time.monotonic() - began, terminal.read(0)
+        well = (ran, sent) == ((3, b"", b"mctpctl: GetTID: no answer\n"), frame(GET_TID) * tries)
+        rows.check(f"asked: the tries with {words}", well and least <= passed < most, repr((ran, sent.hex(), passed)))
 
 
 def waited(rows, place):
@@ -250,7 +285,7 @@ def on_standard_input(rows, place):
     rows.check("asked: standard input that ended", ran == (3, b"", b"mctpctl: the line ended\n"), repr(ran))
 
 
-PARTS = (answered, filed, unanswered, ended, refused, waited, lost, others, late, garbage)
+PARTS = (answered, filed, unanswered, ended, refused, paced, waited, lost, others, late, garbage)
 PARTS += (on_standard_input,)
 
 

@@ -83,6 +83,8 @@ LINKED = (
     ("--keep <MS>", "KEEP"),
     ("--timeout <MS>", "TIMEOUT"),
     ("--tries <N>", "TRIES"),
+    ("--lifetime <MS>", "LIFETIME"),
+    ("--window <N>", "WINDOW"),
     ("--state <FILE>", "STATE"),
     ("--no-state", "NO_STATE"),
 )

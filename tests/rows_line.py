@@ -10,6 +10,7 @@ import termios
 import time
 import tty
 
+from rows_state import state
 from support.askers import ENDS, TIMES, Place
 from support.frames import frame
 from support.programs import PIPES, SECONDS
@@ -19,6 +20,8 @@ SILENT = {**PIPES, "stdin": subprocess.DEVNULL}
 ANSWER = frame(bytes.fromhex("010809c0010000020001"))
 TID_IS_1 = b"  response 0 GetTID tid 1\n"
 NOBODY = b"mctpctl: GetTID: no answer\n"
+
+MISTAKEN = "may take a new request for a copy of an earlier one, not perform it, and send the earlier answer"
 
 # The subcommands that ask, with the words after those of the line.
 ASKING = (("ask", ("gettid",)), ("walk", ()), ("watch", ("--count", "1")))
@@ -137,22 +140,44 @@ def waiting(rows, place):
             words_ = [place.program, subcommand, "--line", terminal.name, *ENDS, *times, *words]
             said = with_own_terminal(words_, stdout=subprocess.DEVNULL).splitlines()
             ran = place.run(*words_[1:])
+        warned = f"mctpctl: warning: a device that keeps its answers for more than 2000 ms {MISTAKEN}"
         first = "mctpctl: 4 s pass first: late answers to earlier requests may still come"
         then = f"mctpctl: waiting for an answer on {terminal.name}; a terminal has to be raw: stty -F {terminal.name} raw -echo min 0 time 1"
-        well = said[:2] == [first, then] and then not in said[2:]
+        well = said[:3] == [warned, first, then] and then not in said[3:]
         rows.check(f"what {subcommand} waits for", well, repr(said))
-        rows.check(f"{subcommand} says nothing of it elsewhere", b"wait" not in ran[2] and b"pass" not in ran[2], repr(ran))
+        silent = all(word not in ran[2] for word in (b"warning", b"wait", b"pass"))
+        rows.check(f"{subcommand} says nothing of it elsewhere", silent, repr(ran))
     with Terminal() as terminal:
         served = place.serve(terminal)
         words_ = [place.program, "ask", "--line", terminal.name, *ENDS, *TIMES, "gettid"]
         said = with_own_terminal(words_, stdout=subprocess.DEVNULL).splitlines()
         served.terminate()
         served.wait(timeout=SECONDS)
+    warned = f"mctpctl: warning: a device that keeps its answers for more than 500 ms {MISTAKEN}"
     first = "mctpctl: 1 s pass first: late answers to earlier requests may still come"
-    rows.check("an answer that comes is not waited for", said == [first], repr(said))
+    rows.check("an answer that comes is not waited for", said == [warned, first], repr(said))
 
 
-PARTS = (refused, hung_up, settings, waiting)
+def warned(rows, place):
+    """On a terminal it is said what a device may do that keeps more than the options say, where that is not usual."""
+    known = place.write("state", state(0, []))  # nothing was asked, so the first request goes out at once
+    front = "mctpctl: warning: a device that keeps more than"
+    for words, said in (
+        (("--window", "8"), [f"{front} 8 answers, or for more than 6000 ms, {MISTAKEN}"]),
+        (("--window", "31", "--keep", "1000"), [f"{front} 31 answers, or for more than 1000 ms, {MISTAKEN}"]),
+        (("--window", "32", "--keep", "6000"), []),
+        (("--lifetime", "250"), []),
+    ):
+        with Terminal() as terminal:
+            served = place.serve(terminal)
+            asked = [place.program, "ask", "--line", terminal.name, *ENDS, "--state", known, *words, "gettid"]
+            heard = with_own_terminal(asked, stdout=subprocess.DEVNULL).splitlines()
+            served.terminate()
+            served.wait(timeout=SECONDS)
+        rows.check(f"what is said of {words}", heard == said, repr(heard))
+
+
+PARTS = (refused, hung_up, settings, waiting, warned)
 
 
 def check(rows, program, device):

@@ -10,8 +10,10 @@ import signal
 import subprocess
 import sys
 import tempfile
+import time
 import tomllib
 
+from rows_state import state
 from support.askers import ENDS, TIMES, Place
 from support.examples import ROOT, text_of
 from support.lossy import converse
@@ -274,6 +276,33 @@ def changed(rows, place):
         rows.check(f"walked: {name}", well, repr((status, err, printed)))
 
 
+# A device with so many numeric sensors, each with another reading, that keeps answers for 8 instance IDs.
+MANY = 40
+SENSOR = """
+[[numeric_sensor]]
+id = {0}
+size = "uint8"
+states = [1, 1, 1]
+value = {0}
+"""
+
+
+def paced(rows, place):
+    """More commands than there are instance IDs: the device's window says when each is used again, and every answer is
+    that of its own request. Twice the keeping time would be twelve seconds."""
+    text = text_of("openbmc.toml").split("[[")[0]
+    place.write("device.toml", text + "[records]\n" + "".join(SENSOR.format(number) for number in range(1, MANY + 1)))
+    known = place.write("state", state(0, []))  # nothing was asked, so the first request goes out at once
+    began = time.monotonic()
+    status, out, err = place.served("walk", *ENDS, "--window", "8", "--state", known)
+    passed = time.monotonic() - began
+    answers, table = parts_of(out)
+    ran = (status, err, table)
+    want = columns([(f"sensor {number}", "-", str(number), "normal") for number in range(1, MANY + 1)])
+    rows.check("walked: a window of 8", ran == (0, b"", want) and passed < 3, repr((ran, passed)))
+    rows.check("walked: a window of 8, each sensor is read", len(answers) >= FOUND + 2 * MANY, repr(answers))
+
+
 def lossy(rows, place):
     """A line that loses one byte in 250: each command is answered in one of its eight tries."""
     place.write("device.toml", text_of("openbmc.toml"))
@@ -286,7 +315,7 @@ def lossy(rows, place):
     rows.check("walked: over a line that loses bytes", well, repr((status, out, lost)))
 
 
-PARTS = (tables, asked, closed, records, joined, two_termini, refused, changed, lossy)
+PARTS = (tables, asked, closed, records, joined, two_termini, refused, changed, paced, lossy)
 
 
 def check(rows, program, device):

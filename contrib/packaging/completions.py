@@ -19,6 +19,8 @@ ON_A_LINE = [
     Option("--keep", "MS", "The keeping time of the device"),
     Option("--timeout", "MS", "How long a try waits for an answer"),
     Option("--tries", "N", "How often a request is sent at most"),
+    Option("--lifetime", "MS", "How late a packet of a request may still come"),
+    Option("--window", "N", "For how many instance IDs the device keeps answers"),
     Option("--state", FILE, "Keep in this file when requests were opened"),
     Option("--no-state", None, "Keep nothing, and wait first"),
 ]

@@ -3,7 +3,7 @@
 use mctp_control::AnyQuery;
 use mctp_packet::{Eid, Keep};
 use pldm_line::{AskFault, Asked, BeginFault, Ended, ListTicks, Port, ask, ask_control, begin};
-use pldm_requester::Timing;
+use pldm_requester::{Pace, Timing};
 use pldm_wire::Command;
 use std::alloc::Global;
 use std::io;
@@ -101,13 +101,15 @@ pub fn run_line(
     });
     let mut writer = Port::new(Vec::new(alloc));
     let (own, device) = ends(rt);
+    let timing = timing(rt);
     let ticks = ListTicks { readings: &clock };
     let mut answer = Vec::new(alloc);
     let ended = match begin(
         alloc,
         own,
         device,
-        timing(rt),
+        timing,
+        Pace::at_default(timing.keep),
         ticks,
         &mut reader,
         &mut writer,
@@ -136,7 +138,7 @@ pub fn run_line(
             }
         },
         Err(BeginFault::Line(fault)) => Err(fault),
-        Err(BeginFault::Timing(_)) => panic!(rt; "the timing was refused"),
+        Err(BeginFault::Setting(_)) => panic!(rt; "the settings were refused"),
     };
     Outcome {
         ended,

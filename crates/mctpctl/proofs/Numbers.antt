@@ -1,6 +1,6 @@
 -- The numbers of the source that a definition takes, written a second time.
 use Rattle.std.proofs.Common.{◌≡◌, refl}
-use Rattle.mctpctl.specs.declared.settings.TheConstants.{EVERY_MS, KEEP_MS, MAX_COUNT, MAX_EVERY, TIMEOUT_MS, TRIES}
+use Rattle.mctpctl.specs.declared.settings.TheConstants.{EVERY_MS, KEEP_MS, LIFETIME_MS, MAX_COUNT, MAX_EVERY, TIMEOUT_MS, TRIES}
 use Rattle.mctpctl.specs.declared.keeper.TheConstants.{WALK_QUERIES}
 use Rattle.mctpctl.specs.declared.statuses.TheConstants.{DONE, FAILED, REFUSED, USAGE}
 
@@ -12,6 +12,9 @@ usual_time_of_a_try = refl
 
 usual_tries : TRIES ≡ 3
 usual_tries = refl
+
+lifetime_with_a_window : LIFETIME_MS ≡ 250
+lifetime_with_a_window = refl
 
 usual_period : EVERY_MS ≡ 1000
 usual_period = refl

@@ -11,7 +11,7 @@ use mctpctl_command_line::LineOptions;
 use mctpctl_state::{
     Begun, Earlier, Queries, StateFault, StateFile, Unknown, boot_moment, state_folder, state_name,
 };
-use pldm_requester::{Openings, Pace, Requester, ResumeFault};
+use pldm_requester::{Openings, Requester, ResumeFault};
 use pldm_wire::INSTANCE_IDS;
 use std::fs;
 use std::io::{self, ErrorKind};
@@ -147,9 +147,9 @@ fn resumed(
         own,
         device,
         timing,
+        pace,
     } = *settings;
     let now = Moment::new(present)?;
-    let pace = Pace::at_default(timing.keep);
     match Requester::resumed(rt.alloc(), own, device, timing, pace, now, openings) {
         Ok(requester) => Some(requester),
         Err(ResumeFault::Openings) => {

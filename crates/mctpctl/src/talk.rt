@@ -14,7 +14,7 @@ use crate::commands::AskedCommand;
 use crate::conversation::Conversation;
 use crate::keeper::{Keeper, WALK_QUERIES};
 use crate::line::{Line, input_name, open_input, open_line};
-use crate::settings::{Periods, Settings, settings_of};
+use crate::settings::{KEEP_MS, Periods, Settings, pace_option, settings_of};
 use crate::state::{LineState, begin_state};
 use crate::statuses::{FAILED, USAGE};
 use crate::walking::walk_device;
@@ -23,10 +23,14 @@ use mctpctl_colours::{Colouring, Marks, is_asked};
 use mctpctl_command_line::{AskOptions, LineOptions, TRY_HELP, WalkOptions, WatchOptions};
 use mctpctl_input::Port;
 use pldm_line::{AskFault, AskingLine, BeginFault, LaterTicks, SystemTicks, Ticks, begin, resume};
-use pldm_requester::Requester;
+use pldm_requester::{Requester, SettingFault};
 use pldm_wire::INSTANCE_IDS;
 use std::alloc::Global;
 use std::io::{IsTerminal, Read, Write};
+
+/// What a device may do where it has an earlier answer with a request's instance ID.
+const MISTAKEN: &str =
+    "may take a new request for a copy of an earlier one, not perform it, and send the earlier answer";
 
 /// What is asked of a device.
 #[derive(Clone, Copy)]
@@ -87,6 +91,7 @@ pub fn do_errand(
         settings: *settings,
         errand,
     };
+    say_assumed(rt, settings);
     let wait = match state.requester {
         Some(_) => 0,
         None => settling_time(settings),
@@ -183,7 +188,7 @@ fn talk_over<R: Read + Drop, W: Write + Drop, O: Write + IsTerminal + Drop>(
         }
         Err(fault) => {
             let _ = keeper.end(rt);
-            begin_failed(rt, on, fault)
+            begin_failed(rt, settings, on, fault)
         }
     }
 }
@@ -291,6 +296,25 @@ fn settling_time(settings: &Settings) -> u64
     2 * u64::from(settings.timing.keep.get())
 }
 
+/// Says on a terminal what becomes of requests where the device keeps its answers longer than the options say, or more
+/// of them, if they say less than is usual.
+fn say_assumed(rt: &HostRuntime, settings: &Settings) {
+    let keep = u64::from(settings.timing.keep.get());
+    let window = settings.pace.window;
+    if !rt.stderr().is_terminal() {
+        return;
+    }
+    if window < INSTANCE_IDS {
+        let _ = eprintln!(rt;
+            "mctpctl: warning: a device that keeps more than {window} answers, or for more than {keep} ms, {MISTAKEN}"
+        );
+    } else if keep < KEEP_MS {
+        let _ = eprintln!(rt;
+            "mctpctl: warning: a device that keeps its answers for more than {keep} ms {MISTAKEN}"
+        );
+    }
+}
+
 /// Says on a terminal for how long nothing is asked, where that is a second or more.
 fn say_waiting(rt: &HostRuntime, settings: &Settings) {
     let span = settling_time(settings);
@@ -333,8 +357,8 @@ fn begin_line<C: Ticks + Drop, R: Read, W: Write>(
 ) -> Result<AskingLine<C>, BeginFault>
     requires works { BothWork reader.old writer.old }
     ensures begun { IfOk result (λ line. Listens (2 * settings.now.timing.keep)
-        (begun_as C.to_come R.remaining W.contents settings.now.own settings.now.device settings.now.timing ticks
-        reader.old writer.old)
+        (begun_as C.to_come R.remaining W.contents settings.now.own settings.now.device settings.now.timing
+        settings.now.pace ticks reader.old writer.old)
         (shown C.to_come R.remaining W.contents line reader.new writer.new)) }
     ensures works { OnOk result (BothWork reader.new writer.new) }
 {
@@ -342,17 +366,23 @@ fn begin_line<C: Ticks + Drop, R: Read, W: Write>(
         own,
         device,
         timing,
+        pace,
     } = *settings;
-    begin(alloc, own, device, timing, ticks, reader, writer)
+    begin(alloc, own, device, timing, pace, ticks, reader, writer)
 }
 
 /// Says why nothing can be asked, and returns the exit status.
-fn begin_failed(rt: &HostRuntime, on: &Line<'_>, fault: BeginFault) -> u8
+fn begin_failed(rt: &HostRuntime, settings: &Settings, on: &Line<'_>, fault: BeginFault) -> u8
     ensures { result ≤ FAILED }
 {
     match fault {
-        BeginFault::Timing(fault) => {
+        BeginFault::Setting(SettingFault::Timing(fault)) => {
             let _ = eprint!(rt; "error: {fault}{TRY_HELP}");
+            USAGE
+        }
+        BeginFault::Setting(SettingFault::Pace(fault)) => {
+            let option = pace_option(settings, fault);
+            let _ = eprint!(rt; "error: invalid value for '{option}': {fault}{TRY_HELP}");
             USAGE
         }
         BeginFault::Line(fault) => on.failed(rt, fault),

@@ -15,7 +15,7 @@ use crate::keeper::Keeper;
 use crate::settings::{MAX_EVERY, Periods};
 use crate::statuses::{DONE, FAILED};
 use crate::walking::{add_heard, ask_all, described_of};
-use mctp_packet::{Memory, Moment};
+use mctp_packet::Memory;
 use mctpctl_command_line::WatchOptions;
 use mctpctl_input::Port;
 use mctpctl_table::{Described, Table};
@@ -26,6 +26,11 @@ use pldm_wire::Command;
 use std::alloc::Global;
 use std::fs::{self, File};
 use std::io::{self, Read, Write};
+use std::thread;
+use std::time::Duration;
+
+/// A read of a terminal ends after so many milliseconds where nothing comes.
+const READ_MS: u64 = 100;
 
 /// Finds the sensors and effecters of the device over a line, reads them in each period, prints their table, and
 /// returns what keeps its requests, with the exit status. Moments are printed from `start` on, one of the line's clock.
@@ -69,8 +74,9 @@ fn watch_rounds<C: Ticks, R: Read, W: Write, Q: Write, O: Write>(
         return Err(AskFault::Memory);
     };
     let mut before = Table::new(rt.alloc());
+    let mut due = quiet.line.moment().get();
     for period in 0..periods.count {
-        let began = quiet.line.moment();
+        let began = quiet.line.moment().get();
         let (table, one) = read_all(
             rt,
             &walk,
@@ -82,17 +88,20 @@ fn watch_rounds<C: Ticks, R: Read, W: Write, Q: Write, O: Write>(
         )?;
         status = status.max(one);
         let last = if period > 0 { &before } else { &table };
-        let moment = began.get().saturating_sub(start);
+        let moment = began.saturating_sub(start);
         print_round(rt.alloc(), moment, &table, last, out)?;
         if let Err(error) = log_round(rt.alloc(), moment, &table, &mut log) {
             return Ok(log_failed(rt, options, &error));
         }
         before = table;
         if period + 1 < periods.count {
+            due = due
+                .saturating_add(periods.every)
+                .max(quiet.line.moment().get());
             rest(
+                rt,
+                due,
                 &mut quiet.line,
-                began,
-                periods.every,
                 &mut quiet.reader,
                 &mut quiet.writer,
             )?;
@@ -199,22 +208,27 @@ fn question_at(walk: &Walk, place: usize) -> Command
     found.subject.question()
 }
 
-/// Listens until a period has passed since a moment, for a day at most.
+/// Listens until a moment, for a day at most. The last read begins so that it ends then where nothing comes.
 fn rest<C: Ticks, R: Read, W: Write>(
+    rt: &HostRuntime,
+    due: u64,
     line: &mut AskingLine<C>,
-    began: Moment,
-    every: u64,
     reader: &mut Port<R>,
     writer: &mut Port<W>,
 ) -> Result<(), AskFault>
     requires works { BothWork reader.old writer.old }
     ensures works { OnOk result (BothWork reader.new writer.new) }
 {
-    let passed = line.moment().get().saturating_sub(began.get());
-    match every.saturating_sub(passed).min(MAX_EVERY) {
-        0 => Ok(()),
-        span => listen(line, span, reader, writer),
+    let span = due.saturating_sub(line.moment().get()).min(MAX_EVERY);
+    if span == 0 {
+        return Ok(());
     }
+    if span > 3 * READ_MS {
+        listen(line, span - 3 * READ_MS, reader, writer)?;
+    }
+    let left = due.saturating_sub(line.moment().get()).min(MAX_EVERY);
+    thread::sleep(rt, Duration::from_millis(left.saturating_sub(READ_MS)));
+    listen(line, 0, reader, writer)
 }
 
 /// Prints the table of a period: the moment, the rows, and a blank line. Rows that have changed are marked.

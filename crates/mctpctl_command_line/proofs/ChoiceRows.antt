@@ -134,6 +134,8 @@ from_8_to_9 = record {
   keep = None;
   timeout = None;
   tries = None;
+  lifetime = None;
+  window = None;
   state = None;
   no_state = false;
 }
@@ -191,6 +193,17 @@ walk_with_all :
     ≡ Some (to_walk (record { link = record from_8_to_9 { line = Some (codes "tty") }; records = Some (codes "pdr") }))
 unfolding clap_on_literals
 walk_with_all = refl
+
+walk_at_a_pace :
+    choice_of
+    (codes "mctpctl" ∷ codes "walk" ∷ codes "--own=8" ∷ codes "--device=9" ∷ codes "--lifetime=100"
+    ∷ codes "--window" ∷ codes "8" ∷ [])
+    ≡ Some (to_walk (record {
+      link = record from_8_to_9 { lifetime = Some (codes "100"); window = Some (codes "8") };
+      records = None;
+    }))
+unfolding clap_on_literals
+walk_at_a_pace = refl
 
 -- a walk takes no command
 walk_with_a_word : choice_of (codes "mctpctl" ∷ codes "walk" ∷ codes "--own=8" ∷ codes "--device=9" ∷ codes "gettid" ∷ []) ≡ None

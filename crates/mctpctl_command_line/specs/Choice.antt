@@ -89,10 +89,15 @@ timed_subcommand name =
     with_rule (with_rule (with_rule (line_subcommand name) (value_option (codes "keep")))
     (value_option (codes "timeout"))) (value_option (codes "tries"))
 
+-- and the pace
+abbrev pub paced_subcommand : List ℕ → App
+paced_subcommand name =
+    with_rule (with_rule (timed_subcommand name) (value_option (codes "lifetime"))) (value_option (codes "window"))
+
 -- and the file of its state
 abbrev pub stated_subcommand : List ℕ → App
 stated_subcommand name =
-    with_rule (with_rule (timed_subcommand name) (value_option (codes "state"))) (flag (codes "no-state"))
+    with_rule (with_rule (paced_subcommand name) (value_option (codes "state"))) (flag (codes "no-state"))
 
 abbrev pub one_or_more : ValueRange
 one_or_more = record { start_inclusive = 1; end_inclusive = usize_max }
@@ -173,6 +178,8 @@ pub record Linked : Type 0 where
   pub keep : Option (List ℕ)
   pub timeout : Option (List ℕ)
   pub tries : Option (List ℕ)
+  pub lifetime : Option (List ℕ)
+  pub window : Option (List ℕ)
   pub state : Option (List ℕ)
   pub no_state : Bool
 
@@ -223,6 +230,8 @@ linked l = record {
   keep = option_map (λ text. text.now) l.keep;
   timeout = option_map (λ text. text.now) l.timeout;
   tries = option_map (λ text. text.now) l.tries;
+  lifetime = option_map (λ text. text.now) l.lifetime;
+  window = option_map (λ text. text.now) l.window;
   state = option_map (λ text. text.now) l.state;
   no_state = l.no_state;
 }
@@ -281,6 +290,8 @@ link_in rows =
       keep = first_of (codes "keep") rows;
       timeout = first_of (codes "timeout") rows;
       tries = first_of (codes "tries") rows;
+      lifetime = first_of (codes "lifetime") rows;
+      window = first_of (codes "window") rows;
       state = first_of (codes "state") rows;
       no_state = is_given (codes "no-state") rows;
     }) (first_of (codes "device") rows)) (first_of (codes "own") rows)

@@ -4,12 +4,12 @@ ghost use Rattle.std.specs.Prelude.{◌≡◌, IfOk, IfErr, Some, false, map, op
 ghost use Rattle.mctp_packet.specs.Memories.{out_of_memory};
 ghost use Rattle.clap.specs.Words.{app_of, first_of, found_of, kind_of, rows_of, rule_of, subcommand_rows_of};
 ghost use Rattle.mctpctl_command_line.specs.FaultNumbers.{number_of_choose_fault};
-ghost use Rattle.mctpctl_command_line.specs.Choice.{ask_subcommand as the_ask_subcommand, asked, asking_command as the_asking_command, binding_in, binding_named, choice_in as the_choice, choice_of, command as the_command, command_words as the_command_words, device_command as the_device_command, flag as the_flag, has_globals, is_given, line_command as the_line_command, line_subcommand as the_line_subcommand, link_in, linked, program as the_program, question_in, questioned, serve_subcommand as the_serve_subcommand, serving_subcommand as the_serving_subcommand, served, service_in, show_subcommand as the_show_subcommand, stated_subcommand as the_stated_subcommand, walk_options_in, walk_options, task_named, text_command as the_text_command, text_subcommand as the_text_subcommand, text_task_in, timed_subcommand as the_timed_subcommand, value_option as the_value_option, values_given, watch_options_in, watch_options, walk_subcommand as the_walk_subcommand, walking_command as the_walking_command, watch_subcommand as the_watch_subcommand, watching_command as the_watching_command, ReportsKind, ReportsRefusal};
+ghost use Rattle.mctpctl_command_line.specs.Choice.{ask_subcommand as the_ask_subcommand, asked, asking_command as the_asking_command, binding_in, binding_named, choice_in as the_choice, choice_of, command as the_command, command_words as the_command_words, device_command as the_device_command, flag as the_flag, has_globals, is_given, line_command as the_line_command, line_subcommand as the_line_subcommand, link_in, linked, paced_subcommand as the_paced_subcommand, program as the_program, question_in, questioned, serve_subcommand as the_serve_subcommand, serving_subcommand as the_serving_subcommand, served, service_in, show_subcommand as the_show_subcommand, stated_subcommand as the_stated_subcommand, walk_options_in, walk_options, task_named, text_command as the_text_command, text_subcommand as the_text_subcommand, text_task_in, timed_subcommand as the_timed_subcommand, value_option as the_value_option, values_given, watch_options_in, watch_options, walk_subcommand as the_walk_subcommand, walking_command as the_walking_command, watch_subcommand as the_watch_subcommand, watching_command as the_watching_command, ReportsKind, ReportsRefusal};
 
 use crate::help::{
     ANSWER, ASK, ASKED, ASSIGN, BINDING, BINDINGS, COMMAND, COMMANDS, COUNT, DECODE, DEVICE, EVERY,
-    EXPLAIN, FAULTS, HEX, KEEP, LINE, LOG, NO_BINDING, NO_STATE, OWN, READINGS, RECORDS, RUN,
-    SERVE, SHOW, STATE, STATUSES, TIMEOUT, TRIES, VERBOSE, VERSION, WALK, WATCH,
+    EXPLAIN, FAULTS, HEX, KEEP, LIFETIME, LINE, LOG, NO_BINDING, NO_STATE, OWN, READINGS, RECORDS,
+    RUN, SERVE, SHOW, STATE, STATUSES, TIMEOUT, TRIES, VERBOSE, VERSION, WALK, WATCH, WINDOW,
 };
 use clap::error::ErrorKind;
 use clap::{Arg, ArgAction, ArgMatches, Command};
@@ -89,6 +89,10 @@ pub struct LineOptions<'a> {
     pub timeout: Option<&'a str>,
     /// How many tries there are (`--tries`).
     pub tries: Option<&'a str>,
+    /// The lifetime (`--lifetime`).
+    pub lifetime: Option<&'a str>,
+    /// The window (`--window`).
+    pub window: Option<&'a str>,
     /// The file that keeps when requests were opened (`--state`).
     pub state: Option<&'a str>,
     /// Whether no such file is kept (`--no-state`).
@@ -325,14 +329,24 @@ fn watch_subcommand<'a>(alloc: Global) -> Result<Command<'a>, AllocError>
         .arg(value_option(alloc, "log", "FILE", READINGS))
 }
 
-/// A subcommand of this name, with the options of a line, of time and of the state.
+/// A subcommand of this name, with the options of a line, of time, of the pace and of the state.
 fn stated_subcommand<'a>(alloc: Global, name: &'static str) -> Result<Command<'a>, AllocError>
     ensures app { IfOk result (λ command. app_of command ≡ the_stated_subcommand name.now) }
     ensures local { IfOk result (λ command. has_globals command ≡ false) }
 {
-    timed_subcommand(alloc, name)?
+    paced_subcommand(alloc, name)?
         .arg(value_option(alloc, "state", "FILE", STATE))?
         .arg(flag(alloc, "no-state", NO_STATE))
+}
+
+/// A subcommand of this name, with the options of a line, of time and of the pace.
+fn paced_subcommand<'a>(alloc: Global, name: &'static str) -> Result<Command<'a>, AllocError>
+    ensures app { IfOk result (λ command. app_of command ≡ the_paced_subcommand name.now) }
+    ensures local { IfOk result (λ command. has_globals command ≡ false) }
+{
+    timed_subcommand(alloc, name)?
+        .arg(value_option(alloc, "lifetime", "MS", LIFETIME))?
+        .arg(value_option(alloc, "window", "N", WINDOW))
 }
 
 /// A subcommand of this name, with the options of a line and of time.
@@ -537,6 +551,8 @@ fn link_of<'a>(matches: &ArgMatches<'a>) -> Option<LineOptions<'a>>
         keep: value(matches, "keep"),
         timeout: value(matches, "timeout"),
         tries: value(matches, "tries"),
+        lifetime: value(matches, "lifetime"),
+        window: value(matches, "window"),
         state: value(matches, "state"),
         no_state: is_given(matches, "no-state"),
     })

@@ -57,6 +57,14 @@ pub const TIMEOUT: &str = "How long a try waits for an answer [default: 2000]";
 /// What `--tries` is.
 pub const TRIES: &str = "How often a request is sent at most, 1 to 8 [default: 3]";
 
+/// What `--lifetime` is.
+pub const LIFETIME: &str =
+    "How late a packet of a request may still come [default: 250 with --window, else that of --keep]";
+
+/// What `--window` is.
+pub const WINDOW: &str =
+    "For how many instance IDs the device keeps answers, 1 to 32 [default: 32]";
+
 /// What `--hex` does.
 pub const HEX: &str = "Print answers as bytes in hex";
 
@@ -263,13 +271,18 @@ error:
 
     response 0 GetTID tid 1
 
-An instance ID is used again after twice the keeping time. When requests were opened is
-kept in a file for each line, --own and --device, in $XDG_STATE_HOME/mctpctl or
-~/.local/state/mctpctl, or in --state FILE, so that the next run goes on at once. Where
-nothing is known of earlier requests, as after a start of the system or with --no-state,
-that time passes first, and what comes then is dropped: an answer to an earlier request
-is none to a new one. Where the device keeps its answers for less time, --keep 1000
---timeout 300 makes that two seconds.
+An instance ID is used again after twice the keeping time, so 32 commands go out in that
+time at most. Where the device keeps its answers for 8 instance IDs, as its description may
+say, --window 8 makes that 16 commands in --lifetime, 250 milliseconds, which the tries then
+share. A device that keeps more answers, or longer, may take a new request for a copy of an
+earlier one, not perform it, and send the earlier answer.
+
+When requests were opened is kept in a file for each line, --own and --device, in
+$XDG_STATE_HOME/mctpctl or ~/.local/state/mctpctl, or in --state FILE, so that the next run
+goes on at once. Where nothing is known of earlier requests, as after a start of the system
+or with --no-state, twice the keeping time passes first, and what comes then is dropped: an
+answer to an earlier request is none to a new one. Where the device keeps its answers for
+less time, --keep 1000 --timeout 300 makes that two seconds.
 
 Exit status, the greatest where there are several commands:
   0  the answer has the completion code SUCCESS
@@ -286,7 +299,8 @@ UUID and message types, by control messages; its terminus ID and PLDM types, the
 and commands of each type, how many records its repository has, each record, and the
 reading, value or states of each sensor and effecter that a record describes. Nothing is
 set. The line, the endpoint IDs, the times and the state are those of 'ask'. As an instance
-ID is used again after twice the keeping time, 32 commands are asked in that time at most:
+ID is used again after twice the keeping time, 32 commands are asked in that time at most;
+--window allows more:
 
   stty -F /dev/ttyS1 raw -echo min 0 time 1
   mctpctl walk --line /dev/ttyS1 --own 8 --device 9
@@ -336,7 +350,7 @@ The device is asked for its records as by 'walk', with nothing printed. Then, in
 period, each sensor and effecter that a record describes is asked for its reading, value
 or states. Nothing is set. The line, the endpoint IDs, the times and the state are those of
 'ask'. A row without an answer says so, and the next one is asked. A period lasts longer
-where 32 commands in twice the keeping time are not enough:
+where 32 commands in twice the keeping time are not enough; --window allows more:
 
   stty -F /dev/ttyS1 raw -echo min 0 time 1
   mctpctl watch --line /dev/ttyS1 --own 8 --device 9 --every 500 --log readings.csv

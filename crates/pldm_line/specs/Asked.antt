@@ -17,9 +17,10 @@ use Rattle.mctpctl_input.specs.declared.port.Port.{Port}
 use Rattle.pldm_line.specs.Clocks.{HasNoMore}
 use Rattle.pldm_line.specs.Serving.{packets_in}
 use Rattle.pldm_requester.specs.Numbering.{packets_of}
+use Rattle.pldm_requester.specs.Pacing.{setting_fault}
 use Rattle.pldm_requester.specs.Slots.{held_of}
 use Rattle.pldm_requester.specs.Steps.{accepts, opened_held}
-use Rattle.pldm_requester.specs.Timings.{timing_fault}
+use Rattle.pldm_requester.specs.declared.pace.Pace.{Pace}
 use Rattle.pldm_requester.specs.declared.requester.TheConstants.{MAX_REMEMBERED}
 use Rattle.pldm_requester.specs.declared.timing.Timing.{Timing}
 use Rattle.pldm_wire.specs.declared.command.Command.{Command}
@@ -175,9 +176,9 @@ StopsListening span fault s s1 = StopsAtFirst fault s s1 ⊎ StopsLater span fau
 -- a new line
 abbrev pub begun_as :
     {C R W : Type 0} → (C → Option (List ℕ)) → (R → Option (List ℕ)) → (W → Option (List ℕ))
-    → ℕ → ℕ → Timing → C → Port R → Port W → Shown
-begun_as to_come remaining contents own device timing ticks reader writer = record {
-  asking = at_first own device timing;
+    → ℕ → ℕ → Timing → Pace → C → Port R → Port W → Shown
+begun_as to_come remaining contents own device timing pace ticks reader writer = record {
+  asking = at_first own device timing pace;
   left = remaining (inner_of reader);
   clock = to_come ticks;
   written = contents (inner_of writer);
@@ -185,18 +186,18 @@ begun_as to_come remaining contents own device timing ticks reader writer = reco
 
 -- a line that listened stopped before it was begun, where these bytes are left to come and these were written
 abbrev pub StopsBeginning : ℕ → Shown → (left written : Option (List ℕ)) → BeginFault → Type 0
-StopsBeginning span s left written (begin.Timing fault) = Unit {0}
+StopsBeginning span s left written (begin.Setting fault) = Unit {0}
 StopsBeginning span s left written (begin.Line fault) =
     fault ≢ faults.Write
     → (asking : Asking) × (clock : Option (List ℕ))
     × StopsListening span fault s (record { asking = asking; left = left; clock = clock; written = written })
 
--- why a line was not begun: its timing has this fault, or it has none
-abbrev pub RefusesTiming : ℕ → ℕ → Timing → BeginFault → Type 0
-RefusesTiming own device timing (begin.Timing fault) = timing_fault own device timing ≡ Some fault
-RefusesTiming own device timing (begin.Line fault) = timing_fault own device timing ≡ None
+-- why a line was not begun: its settings have this fault, or they have none
+abbrev pub RefusesSettings : ℕ → ℕ → Timing → Pace → BeginFault → Type 0
+RefusesSettings own device timing pace (begin.Setting fault) = setting_fault own device timing pace ≡ Some fault
+RefusesSettings own device timing pace (begin.Line fault) = setting_fault own device timing pace ≡ None
 
--- a line was begun only where its timing has no fault, and else it says why not
-abbrev pub ChecksTiming : {A : Type 0} → ℕ → ℕ → Timing → Result A BeginFault → Type 0
-ChecksTiming own device timing result =
-    MatchResult result (λ _. timing_fault own device timing ≡ None) (RefusesTiming own device timing)
+-- a line was begun only where its settings have no fault, and else it says why not
+abbrev pub ChecksSettings : {A : Type 0} → ℕ → ℕ → Timing → Pace → Result A BeginFault → Type 0
+ChecksSettings own device timing pace result =
+    MatchResult result (λ _. setting_fault own device timing pace ≡ None) (RefusesSettings own device timing pace)

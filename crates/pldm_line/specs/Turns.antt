@@ -8,7 +8,8 @@ use Rattle.mctp_serial.specs.Readings.{Reading, after, idle, step}
 use Rattle.pldm_line.specs.declared.quiet.Quiet.{Quiet}
 use Rattle.pldm_line.specs.declared.quiet.TheConstants.{END_MS, END_READS}
 use Rattle.pldm_line.specs.Serving.{moment_after, packets_in}
-use Rattle.pldm_requester.specs.Steps.{RequesterState, Memo, again_at, got_at, held_at_first, received_held, ticked_held}
+use Rattle.pldm_requester.specs.Steps.{RequesterState, Memo, again_at, got_at, paced_at_first, received_held, ticked_held}
+use Rattle.pldm_requester.specs.declared.pace.Pace.{Pace}
 use Rattle.pldm_requester.specs.declared.results.Got.TheVariants.{Partial}
 use Rattle.pldm_requester.specs.declared.timing.Timing.{Timing}
 
@@ -77,9 +78,9 @@ pub record HearsByte (h : RequesterState) (r : Reading) (moment byte : ℕ) (h1 
       (bytes : List ℕ) → WantsMemory h1 moment (packets_in r1 bytes) → WantsMemory h moment (packets_in r (byte ∷ bytes))
   pub reading : (step r byte).next ≡ r1
 
-abbrev pub at_first : ℕ → ℕ → Timing → Asking
-at_first own device timing =
-    record { held = held_at_first own device timing; reading = idle; quiet = quiet_from 0 }
+abbrev pub at_first : ℕ → ℕ → Timing → Pace → Asking
+at_first own device timing pace =
+    record { held = paced_at_first own device timing pace; reading = idle; quiet = quiet_from 0 }
 
 module _ (a : Asking) (turn : Turn) where
   -- the latest of the readings so far

@@ -3,7 +3,7 @@
 ghost use Rattle.std.specs.Prelude.{◌≡◌};
 ghost use Rattle.pldm_line.specs.AskFaults.{text_of};
 
-use pldm_requester::TimingFault;
+use pldm_requester::SettingFault;
 use thiserror::Error;
 
 /// Why nothing more is asked on a line.
@@ -46,9 +46,9 @@ impl AskFault {
 /// Why nothing can be asked on a line.
 #[derive(Clone, Copy, Debug, PartialEq, Eq, Error)]
 pub enum BeginFault {
-    /// The timing was refused.
+    /// The timing or the pace was refused.
     #[error("{0}")]
-    Timing(TimingFault),
+    Setting(SettingFault),
     /// The line stopped before twice the keeping time had passed.
     #[error("{0}")]
     Line(AskFault),

@@ -2,7 +2,7 @@
 
 ghost use Rattle.std.specs.Prelude.{◌≡◌, ◌≢◌, ℕ, ◌*◌, ◌<◌, ◌≤◌, ◌^◌, Some, Err, option_map, IfOk, IfErr, OnOk, true, false};
 ghost use Rattle.std.specs.Io.KnownBytes.{Keeps};
-ghost use Rattle.pldm_line.specs.Asked.{AskStops, Asks, ChecksTiming, Goes, Listens, Opens, OpensNow, Stops, StopsBeginning, StopsListening, StopsOpening, asking_of, begun_as, shown};
+ghost use Rattle.pldm_line.specs.Asked.{AskStops, Asks, ChecksSettings, Goes, Listens, Opens, OpensNow, Stops, StopsBeginning, StopsListening, StopsOpening, asking_of, begun_as, shown};
 ghost use Rattle.pldm_line.specs.Ends.{IsWaiting, answer_of, ended_of};
 ghost use Rattle.mctpctl_input.specs.Ports.{inner_of, has_failed, BothWork, ReportsFailed, ReportsFailedPorts, StaysFlushed};
 ghost use Rattle.pldm_line.specs.Turns.{quiet_from};
@@ -19,7 +19,7 @@ use crate::turn::{send_request, take_turn};
 use mctp_packet::{Eid, Moment};
 use mctp_serial::FrameReader;
 use mctpctl_input::Port;
-use pldm_requester::{OpenFault, Openings, Requester, Status, Timing};
+use pldm_requester::{OpenFault, Openings, Pace, Requester, Status, Timing};
 use pldm_wire::Command;
 use std::alloc::Global;
 use std::io::{Read, Write};
@@ -95,32 +95,35 @@ impl<C> AskingLine<C> {
 ///
 /// # Errors
 ///
-/// `Timing` where the requester refuses the timing; nothing is read then. `Line` as from [`listen`].
+/// `Setting` where the requester refuses the timing or the pace; nothing is read then. `Line` as from [`listen`].
 pub fn begin<C: Ticks + Drop, R: Read, W: Write>(
     alloc: Global,
     own: Eid,
     device: Eid,
     timing: Timing,
+    pace: Pace,
     ticks: C,
     reader: &mut Port<R>,
     writer: &mut Port<W>,
 ) -> Result<AskingLine<C>, BeginFault>
     requires works { BothWork reader.old writer.old }
     ensures begun { IfOk result (λ line. Listens (2 * timing.keep)
-        (begun_as C.to_come R.remaining W.contents own device timing ticks reader.old writer.old)
+        (begun_as C.to_come R.remaining W.contents own device timing pace ticks reader.old writer.old)
         (shown C.to_come R.remaining W.contents line reader.new writer.new)) }
     ensures stopped { IfErr result (StopsBeginning (2 * timing.keep)
-        (begun_as C.to_come R.remaining W.contents own device timing ticks reader.old writer.old)
+        (begun_as C.to_come R.remaining W.contents own device timing pace ticks reader.old writer.old)
         (R.remaining (inner_of reader.new)) (W.contents (inner_of writer.new))) }
     ensures silent { result ≢ Err (BeginFault.Line AskFault.Write)
         → Keeps (W.contents (inner_of writer.old)) (W.contents (inner_of writer.new)) }
-    ensures timing { ChecksTiming own device timing result }
+    ensures settings { ChecksSettings own device timing pace result }
     ensures flushed { result ≢ Err (BeginFault.Line AskFault.Write) → StaysFlushed writer.old writer.new }
     ensures ports { ReportsFailedPorts (BeginFault.Line AskFault.Read) (BeginFault.Line AskFault.Write) result
         reader.new writer.new }
 {
     let span = settling_time(&timing);
-    begin_after(alloc, own, device, timing, span, ticks, reader, writer)
+    begin_after(
+        alloc, own, device, timing, pace, span, ticks, reader, writer,
+    )
 }
 
 /// As [`begin`], where answers to earlier requests of `own` may come for so many milliseconds yet, up to twice the
@@ -129,12 +132,13 @@ pub fn begin<C: Ticks + Drop, R: Read, W: Write>(
 ///
 /// # Errors
 ///
-/// `Timing` where the requester refuses the timing; nothing is read then. `Line` as from [`listen`].
+/// `Setting` where the requester refuses the timing or the pace; nothing is read then. `Line` as from [`listen`].
 pub fn begin_after<C: Ticks + Drop, R: Read, W: Write>(
     alloc: Global,
     own: Eid,
     device: Eid,
     timing: Timing,
+    pace: Pace,
     span: u64,
     ticks: C,
     reader: &mut Port<R>,
@@ -143,21 +147,21 @@ pub fn begin_after<C: Ticks + Drop, R: Read, W: Write>(
     requires works { BothWork reader.old writer.old }
     requires span { span < 2 ^ 60 }
     ensures begun { IfOk result (λ line. Listens span
-        (begun_as C.to_come R.remaining W.contents own device timing ticks reader.old writer.old)
+        (begun_as C.to_come R.remaining W.contents own device timing pace ticks reader.old writer.old)
         (shown C.to_come R.remaining W.contents line reader.new writer.new)) }
     ensures stopped { IfErr result (StopsBeginning span
-        (begun_as C.to_come R.remaining W.contents own device timing ticks reader.old writer.old)
+        (begun_as C.to_come R.remaining W.contents own device timing pace ticks reader.old writer.old)
         (R.remaining (inner_of reader.new)) (W.contents (inner_of writer.new))) }
     ensures silent { result ≢ Err (BeginFault.Line AskFault.Write)
         → Keeps (W.contents (inner_of writer.old)) (W.contents (inner_of writer.new)) }
-    ensures timing { ChecksTiming own device timing result }
+    ensures settings { ChecksSettings own device timing pace result }
     ensures flushed { result ≢ Err (BeginFault.Line AskFault.Write) → StaysFlushed writer.old writer.new }
     ensures ports { ReportsFailedPorts (BeginFault.Line AskFault.Read) (BeginFault.Line AskFault.Write) result
         reader.new writer.new }
 {
-    let requester = match Requester::new(alloc, own, device, timing) {
+    let requester = match Requester::with_pace(alloc, own, device, timing, pace) {
         Ok(requester) => requester,
-        Err(fault) => return Err(BeginFault::Timing(fault)),
+        Err(fault) => return Err(BeginFault::Setting(fault)),
     };
     let mut line = AskingLine {
         frames: FrameReader::new(),

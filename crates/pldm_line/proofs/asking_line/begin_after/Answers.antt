@@ -13,11 +13,11 @@ returns-in-Ok-listen-clause-begun g c =
     let none : c.unwrap.result ≡ 0 = search rules in
     begun_so c.args.span c.args.span
     (shown g.C.Ticks.to_come g.R.Read.remaining g.W.Write.contents
-    (record { frames = c.new-2.result; requester = c.in-Ok.requester; quiet = c.new-4.result; ticks = c.args.ticks })
+    (record { frames = c.new.result; requester = c.in-Ok.requester; quiet = c.new-3.result; ticks = c.args.ticks })
     c.args.reader.now c.args.writer.now)
-    (begun_as g.C.Ticks.to_come g.R.Read.remaining g.W.Write.contents c.args.own c.args.device c.args.timing c.args.ticks c.args.reader.now c.args.writer.now)
+    (begun_as g.C.Ticks.to_come g.R.Read.remaining g.W.Write.contents c.args.own c.args.device c.args.timing c.args.pace c.args.ticks c.args.reader.now c.args.writer.now)
     (shown g.C.Ticks.to_come g.R.Read.remaining g.W.Write.contents c.listen.new.line c.listen.new.reader c.listen.new.writer)
-    refl (same_held c.in-Ok.ensures.held) c.new-2.ensures (c.new-4.ensures ∙ ap quiet_from none)
+    refl (same_held c.in-Ok.ensures.held) c.new.ensures (c.new-3.ensures ∙ ap quiet_from none)
     refl refl refl c.in-Ok-listen.ensures.listened
 
 pub returns-in-Ok-listen-clause-silent : goal.returns-in-Ok-listen-clause-silent
@@ -25,7 +25,7 @@ returns-in-Ok-listen-clause-silent g c =
     λ other.
     listens_silent c.args.span
     (shown g.C.Ticks.to_come g.R.Read.remaining g.W.Write.contents
-    (record { frames = c.new-2.result; requester = c.in-Ok.requester; quiet = c.new-4.result; ticks = c.args.ticks })
+    (record { frames = c.new.result; requester = c.in-Ok.requester; quiet = c.new-3.result; ticks = c.args.ticks })
     c.args.reader.now c.args.writer.now)
     (shown g.C.Ticks.to_come g.R.Read.remaining g.W.Write.contents c.listen.new.line c.listen.new.reader c.listen.new.writer)
     c.in-Ok.ensures.held.count c.in-Ok-listen.ensures.listened
@@ -35,7 +35,7 @@ returns-in-Err-listen-clause-silent g c =
     λ other.
     stops_silent c.args.span c.in-Err-listen.fault
     (shown g.C.Ticks.to_come g.R.Read.remaining g.W.Write.contents
-    (record { frames = c.new-2.result; requester = c.in-Ok.requester; quiet = c.new-4.result; ticks = c.args.ticks })
+    (record { frames = c.new.result; requester = c.in-Ok.requester; quiet = c.new-3.result; ticks = c.args.ticks })
     c.args.reader.now c.args.writer.now)
     (shown g.C.Ticks.to_come g.R.Read.remaining g.W.Write.contents c.listen.new.line c.listen.new.reader c.listen.new.writer)
     c.in-Ok.ensures.held.count
@@ -49,10 +49,10 @@ returns-in-Err-listen-clause-stopped g c =
       g.C.Ticks.to_come c.listen.new.line.ticks,
       stopped_so c.args.span c.in-Err-listen.fault
           (shown g.C.Ticks.to_come g.R.Read.remaining g.W.Write.contents
-          (record { frames = c.new-2.result; requester = c.in-Ok.requester; quiet = c.new-4.result; ticks = c.args.ticks })
+          (record { frames = c.new.result; requester = c.in-Ok.requester; quiet = c.new-3.result; ticks = c.args.ticks })
           c.args.reader.now c.args.writer.now)
-          (begun_as g.C.Ticks.to_come g.R.Read.remaining g.W.Write.contents c.args.own c.args.device c.args.timing c.args.ticks c.args.reader.now c.args.writer.now)
+          (begun_as g.C.Ticks.to_come g.R.Read.remaining g.W.Write.contents c.args.own c.args.device c.args.timing c.args.pace c.args.ticks c.args.reader.now c.args.writer.now)
           (shown g.C.Ticks.to_come g.R.Read.remaining g.W.Write.contents c.listen.new.line c.listen.new.reader c.listen.new.writer)
-          (same_held c.in-Ok.ensures.held) c.new-2.ensures (c.new-4.ensures ∙ ap quiet_from none)
+          (same_held c.in-Ok.ensures.held) c.new.ensures (c.new-3.ensures ∙ ap quiet_from none)
           refl refl refl (c.in-Err-listen.ensures.stopped other),
     )
