@@ -1,5 +1,5 @@
 -- What a file of states says when it is begun, and what is written to it before a request is opened.
-use Rattle.std.specs.Prelude.{◌≡◌, ℕ, ◌+◌, ◌≤◌, List, string_bytes}
+use Rattle.std.specs.Prelude.{◌≡◌, ℕ, ◌≤◌, List, string_bytes}
 use Rattle.mctp_packet.specs.declared.TheConstants.{MAX_MOMENT}
 use Rattle.pldm_requester.specs.declared.openings.Openings.{Openings}
 use Rattle.mctpctl_state.specs.States.{AreOf, later_moments, later_queries, next_after, state_text}
@@ -9,7 +9,6 @@ use Rattle.mctpctl_state.specs.declared.state_file.Begun.{Begun}
 use Rattle.mctpctl_state.specs.declared.state_file.Earlier.{Earlier}
 use Rattle.mctpctl_state.specs.declared.state_file.Earlier.TheVariants.{Known, New, Unknown}
 use Rattle.mctpctl_state.specs.declared.state_file.StateFile.{StateFile}
-use Rattle.mctpctl_state.specs.declared.state_file.TheConstants.{CLOCK_STEP}
 
 -- what is known of earlier requests was kept since this start of the system, for these endpoints, and is not to come
 abbrev pub IsEarlier : List ℕ → ℕ → ℕ → ℕ → Earlier → Type 0
@@ -17,13 +16,13 @@ IsEarlier boot own device now (Known known) = (kept : Kept) × AreOf kept boot o
 IsEarlier boot own device now New = Unit {0}
 IsEarlier boot own device now (Unknown reason) = Unit {0}
 
--- the file has this name and is of these endpoints, and the present is a moment; a reading of the clock may be too early
+-- the file has this name and is of these endpoints, and the present is a moment
 pub record IsBegun (name : List ℕ) (own device : ℕ) (begun : Begun) : Type 0 where
   pub name_is : string_bytes begun.file.name ≡ name
   pub own_is : begun.file.own ≡ own
   pub device_is : begun.file.device ≡ device
   pub present : begun.present ≤ MAX_MOMENT
-  pub earlier : IsEarlier begun.file.boot.items own device (begun.present + CLOCK_STEP) begun.earlier
+  pub earlier : IsEarlier begun.file.boot.items own device begun.present begun.earlier
 
 -- this text keeps these openings and control queries, each so many milliseconds later, and that a request with the next
 -- instance ID may be opened

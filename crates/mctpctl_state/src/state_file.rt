@@ -3,7 +3,7 @@
 ghost use Rattle.std.specs.Prelude.{◌≡◌, IfOk, IfSome, string_bytes};
 ghost use Rattle.mctpctl_state.specs.StateFiles.{IsBegun, IsEarlier, IsTextOf};
 
-use crate::boot_clock::{boot_moment, front_of};
+use crate::boot_clock::{BootMoment, boot_moment, front_of};
 use crate::kept::{FORM, Known, Queries, Unknown, kept_before_next, push_state, read_state};
 use crate::lock::take_lock;
 use mctp_packet::{Eid, MAX_MOMENT};
@@ -15,6 +15,9 @@ use thiserror::Error;
 
 /// By how many milliseconds a reading of the clock may be too early.
 const CLOCK_STEP: u64 = 10;
+
+/// How often the clock is read until it has gone on by its step: a second of a fast machine, at least.
+const MOST_READINGS: u32 = 100_000;
 
 /// Why a file of states is of no use.
 #[derive(Debug, Drop, Error)]
@@ -135,10 +138,10 @@ fn begin_locked(
 ) -> Result<Begun, StateFault>
     ensures { IfOk result (IsBegun name.now own device) }
 {
-    let now = boot_moment(rt)?;
+    let now = moment_past_a_step(rt)?;
     let present = now.milliseconds.min(MAX_MOMENT);
     let earlier = match front_of(rt, name) {
-        Ok(text) => read_earlier(rt, &text, &now.boot, own, device, present + CLOCK_STEP)?,
+        Ok(text) => read_earlier(rt, &text, &now.boot, own, device, present)?,
         Err(error) if error.kind() == ErrorKind::NotFound => Earlier::New,
         Err(error) => return Err(StateFault::File(error)),
     };
@@ -154,6 +157,20 @@ fn begin_locked(
         earlier,
         present,
     })
+}
+
+/// The present moment, once the clock has gone on by its step. A moment that was kept before is then none to come. Where
+/// the clock stands still, it is the first reading.
+fn moment_past_a_step(rt: &HostRuntime) -> io::Result<BootMoment> {
+    let first = boot_moment(rt)?;
+    let past = first.milliseconds.saturating_add(CLOCK_STEP);
+    for _ in 0..MOST_READINGS {
+        let now = boot_moment(rt)?;
+        if now.milliseconds >= past {
+            return Ok(now);
+        }
+    }
+    Ok(first)
 }
 
 /// What a text says of earlier requests up to now.
