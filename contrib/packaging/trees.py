@@ -11,6 +11,8 @@ HERE = os.path.join(ROOT, "contrib", "packaging")
 LIBRARIES = ["libneedleoat_c.a", "libneedleoat_wire_c.a"]
 PLAIN, PROGRAM = 0o644, 0o755
 PAGE = "share/man/man1/mctpctl.1"
+# The program itself. The command, bin/mctpctl, sets the terminal and runs it.
+COMMAND, ITSELF = "bin/mctpctl", "libexec/needleoat/mctpctl"
 
 # What a file has, and its mode.
 File = namedtuple("File", "content mode")
@@ -74,9 +76,11 @@ def completion_tree():
 
 
 def program_tree(program):
-    """The program, its man page and its completions."""
+    """The command and its program, their man page and their completions."""
+    set_line = read(HERE, "set_line.sh").decode()
     return {
-        "bin/mctpctl": File(read(program), PROGRAM),
+        COMMAND: File(filled("mctpctl.in", {"SET_LINE": set_line}), PROGRAM),
+        ITSELF: File(read(program), PROGRAM),
         PAGE: File(read(ROOT, "docs", "mctpctl.1"), PLAIN),
         **completion_tree(),
     }
