@@ -37,8 +37,10 @@ def watched(rows, place):
     rows.check("watched: three periods of a board", well, repr(ran))
     moments = [moment for moment, _ in periods]
     steps = [later - moment for moment, later in zip(moments, moments[1:])]
-    # 32 commands are asked in a second at most, and the walk and the first period have more.
-    well = all(300 <= step < 3000 for step in steps)
+    # None begins before it is to, but for the step of a clock. 32 commands are asked in a second at most, and the walk
+    # and the first period have more.
+    well = all(moment - moments[0] >= 300 * number - 20 for number, moment in enumerate(moments))
+    well = well and all(step < 3000 for step in steps)
     rows.check("watched: as long as they are said to be", well, repr(moments))
     want = "".join(f'{moment},{what},"{name}","{value}"\n' for moment in moments for what, name, value, _ in BOARD)
     with open(log) as file:
