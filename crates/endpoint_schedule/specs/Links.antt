@@ -29,8 +29,8 @@ use Rattle.mctp_schedule.specs.Worlds.{BothEnds, TagIsOwn, World, done, handed, 
 use Rattle.schedule_text.specs.declared.step.Action.TheVariants as actions
 use Rattle.schedule_text.specs.declared.step.RequesterLine.{RequesterLine}
 
--- the endpoint ID that the requesters ask, that of the device's end at first; the keeping time of both ends, the window of the device's end, and the
--- requesters with their pace
+-- the endpoint ID that the requesters ask, which the device's end has at first; the keeping time of both ends, the
+-- window of the device's end, and the requesters with their pace
 pub record LinkSettings : Type 0 where
   pub eid : ℕ
   pub keep : ℕ
