@@ -59,7 +59,7 @@ use Rattle.endpoint_schedule.specs.OverTime as over_time
 use Rattle.endpoint_schedule.proofs.AskedInOrder.{count_of, device, given_is, numbered, refused_is, reply_at}
 use Rattle.endpoint_schedule.proofs.LinkPasses.{passes_holds}
 use Rattle.endpoint_schedule.proofs.LinkReceives.{Laws, put_here, put_other, received_holds}
-use Rattle.endpoint_schedule.proofs.LinkState.{Holds, IsFine, IsPending, IsSent, end_opened, fit_opened, known_done, reply_to, schedule_of, setting, step_at}
+use Rattle.endpoint_schedule.proofs.LinkState.{Holds, IsFine, IsPending, IsSent, down_scheduled, end_opened, fit_opened, known_done, reply_to, schedule_of, setting, stays_scheduled, step_at}
 
 -- ---- what is removed was there
 removed : (pending : map.FinMap request_key_cmp PendingCommand) (key other : RequestKey) (b : PendingCommand) → map.get (map.remove pending key) other ≡ Some b → map.get pending other ≡ Some b
@@ -196,14 +196,7 @@ module _ (settings : LinkSettings) (answers : ℕ → Given) where
         events = holds.end.events;
         listed = holds.end.listed;
       };
-      as_scheduled = record {
-        same = holds.as_scheduled.same;
-        last = let y = holds.as_scheduled.last in omega (arith, y, later);
-        log_last = let y = holds.as_scheduled.log_last in omega (arith, y, later);
-        order = holds.as_scheduled.order;
-        timely = holds.as_scheduled.timely;
-        fit = holds.as_scheduled.fit;
-      };
+      as_scheduled = stays_scheduled settings answers l _ before moment steps refl later holds.as_scheduled;
     }
 
     -- ---- the device answers
@@ -268,14 +261,7 @@ module _ (settings : LinkSettings) (answers : ℕ → Given) where
           events = holds.end.events;
           listed = holds.end.listed;
         };
-        as_scheduled = record {
-          same = holds.as_scheduled.same;
-          last = let y = holds.as_scheduled.last in omega (arith, y, later);
-          log_last = let y = holds.as_scheduled.log_last in omega (arith, y, later);
-          order = holds.as_scheduled.order;
-          timely = holds.as_scheduled.timely;
-          fit = holds.as_scheduled.fit;
-        };
+        as_scheduled = stays_scheduled settings answers l _ before moment steps refl later holds.as_scheduled;
       }
         where
           sent_at : (n : ℕ) (ps : List (List ℕ)) → put l.sent its.k (Some packets) n ≡ Some ps → IsSent settings answers log n ps
@@ -320,14 +306,7 @@ module _ (settings : LinkSettings) (answers : ℕ → Given) where
         events = ap (λ es. Restarted moment ∷ es) holds.end.events;
         listed = holds.end.listed;
       };
-      as_scheduled = record {
-        same = ap (λ w. done (setting settings answers) w moment actions.Restart) holds.as_scheduled.same;
-        last = omega arith;
-        log_last = omega arith;
-        order = (let y = holds.as_scheduled.last in omega (arith, y, later), holds.as_scheduled.order);
-        timely = (tt, holds.as_scheduled.timely);
-        fit = holds.as_scheduled.fit;
-      };
+      as_scheduled = down_scheduled settings answers l _ before moment steps refl later holds.as_scheduled;
     }
 
     -- ---- it gets another endpoint ID
@@ -348,14 +327,7 @@ module _ (settings : LinkSettings) (answers : ℕ → Given) where
         events = cond-false (holds.end.own == NULL_EID) _ _ had_one ∙ ap (λ es. Restarted moment ∷ es) holds.end.events;
         listed = holds.end.listed;
       };
-      as_scheduled = record {
-        same = ap (λ w. done (setting settings answers) w moment actions.Restart) holds.as_scheduled.same;
-        last = omega arith;
-        log_last = omega arith;
-        order = (let y = holds.as_scheduled.last in omega (arith, y, later), holds.as_scheduled.order);
-        timely = (tt, holds.as_scheduled.timely);
-        fit = holds.as_scheduled.fit;
-      };
+      as_scheduled = down_scheduled settings answers l _ before moment steps refl later holds.as_scheduled;
     }
       where
         had_one : (holds.end.own == NULL_EID) ≡ false
@@ -401,14 +373,7 @@ module _ (settings : LinkSettings) (answers : ℕ → Given) where
       none_comes k = record {
         known = record { sent = holds.known.sent; not_ready = holds.known.not_ready; pending = holds.known.pending; fine = holds.known.fine };
         end = record { calls = holds.end.calls; own = holds.end.own; assigned = holds.end.assigned; parts = holds.end.parts; asked_here = holds.end.asked_here; handed_on = holds.end.handed_on; events = holds.end.events; listed = holds.end.listed };
-        as_scheduled = record {
-          same = holds.as_scheduled.same;
-          last = let y = holds.as_scheduled.last in omega (arith, y, later);
-          log_last = let y = holds.as_scheduled.log_last in omega (arith, y, later);
-          order = holds.as_scheduled.order;
-          timely = holds.as_scheduled.timely;
-          fit = holds.as_scheduled.fit;
-        };
+        as_scheduled = stays_scheduled settings answers l _ before moment steps refl later holds.as_scheduled;
       }
 
       -- one comes

@@ -29,7 +29,7 @@ use Rattle.mctp_schedule.specs.Logs.{reached}
 use Rattle.schedule_text.specs.declared.step.Step.{Step}
 use Rattle.endpoint_schedule.specs.Links.{Link, LinkSettings}
 use Rattle.endpoint_schedule.proofs.LinkReceives.{Laws}
-use Rattle.endpoint_schedule.proofs.LinkState.{Holds}
+use Rattle.endpoint_schedule.proofs.LinkState.{Holds, stays_scheduled}
 
 -- ---- no message is no event, and asks nothing
 no_event : {S : Type 0} (a : Arrival) (es : List (Event S)) → message_in a ≡ None → with_arrival a es ≡ es
@@ -129,12 +129,5 @@ module _ (settings : LinkSettings) (answers : ℕ → Given) (laws : Laws) (l : 
       events = events_now;
       listed = holds.end.listed;
     };
-    as_scheduled = record {
-      same = holds.as_scheduled.same;
-      last = let y = holds.as_scheduled.last in omega (arith, y, later);
-      log_last = let y = holds.as_scheduled.log_last in omega (arith, y, later);
-      order = holds.as_scheduled.order;
-      timely = holds.as_scheduled.timely;
-      fit = holds.as_scheduled.fit;
-    };
+    as_scheduled = stays_scheduled settings answers l _ before moment steps refl later holds.as_scheduled;
   }

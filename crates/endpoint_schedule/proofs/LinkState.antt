@@ -1,6 +1,6 @@
 -- What both ends hold after some steps, and that it stays over a step which brings it nothing.
 use Rattle.std.specs.FinMap as map
-use Rattle.std.proofs.Common.{◌≡◌, ℕ, ◌<◌, ◌≤◌, ◌/◌, ◌%◌, ◌^◌, Bool, true, false, List, ◌∷◌, length, Option, Some, None, refl, sym, ap, ◌∙◌, subst}
+use Rattle.std.proofs.Common.{◌≡◌, ℕ, ◌<◌, ◌≤◌, ◌/◌, ◌%◌, ◌^◌, Bool, true, false, List, ◌∷◌, length, Option, Some, None, refl, sym, ap, ◌∙◌, subst, arith}
 use Rattle.std.specs.Prelude.{◌&&◌, ◌||◌, ◌==◌, slice_get, if◌then◌else◌}
 use native.Mathlib.Nat.{zero-div}
 use Rattle.mctp_packet.specs.Ids.{IsEid}
@@ -176,6 +176,29 @@ module _ (settings : LinkSettings) (answers : ℕ → Given) where
       pace = sound.pace;
       reads = reads_all;
     };
+  }
+
+  -- a moment later, where nothing happened that is a step of the schedule
+  pub stays_scheduled : (l new : Link) (before moment : ℕ) (steps : List Step) → new.world ≡ l.world → before ≤ moment → IsAsScheduled l before steps → IsAsScheduled new moment steps
+  stays_scheduled l new before moment steps same later x = record {
+    same = same ∙ x.same;
+    last = let y = x.last in omega (arith, y, later);
+    log_last = subst (λ (w : World). last_of w.log ≤ moment) (sym same) (let y = x.log_last in omega (arith, y, later));
+    order = x.order;
+    timely = x.timely;
+    fit = subst (λ (w : World). RepliesFit (device answers) settings.window settings.keep 0 w.log) (sym same) x.fit;
+  }
+
+  -- the device's end goes down
+  pub down_scheduled : (l new : Link) (before moment : ℕ) (steps : List Step) → new.world ≡ done setting l.world moment actions.Restart → before ≤ moment → IsAsScheduled l before steps
+      → IsAsScheduled new moment (step_at moment actions.Restart ∷ steps)
+  down_scheduled l new before moment steps now_is later x = record {
+    same = now_is ∙ ap (λ w. done setting w moment actions.Restart) x.same;
+    last = omega arith;
+    log_last = subst (λ (w : World). last_of w.log ≤ moment) (sym now_is) (omega arith);
+    order = (let y = x.last in omega (arith, y, later), x.order);
+    timely = (tt, x.timely);
+    fit = subst (λ (w : World). RepliesFit (device answers) settings.window settings.keep 0 w.log) (sym now_is) x.fit;
   }
 
   pub record Holds (l : Link) (moment : ℕ) (steps : List Step) : Type 0 where
