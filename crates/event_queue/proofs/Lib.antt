@@ -1,0 +1,4 @@
+pub mod TakenOnce
+pub mod RecentRequests
+pub mod WorkedRun
+pub mod Numbers

@@ -1,0 +1,4 @@
+pub mod Queues
+pub mod Receivers
+pub mod Runs
+pub mod Laws
