@@ -4,3 +4,9 @@ pub mod LinkReceives
 pub mod LinkPasses
 pub mod LinkHolds
 mod WorkedLinks
+pub mod RecentDeliveries
+pub mod PostedEvents
+pub mod FollowedRuns
+pub mod OpenedRuns
+pub mod EventsTaken
+pub mod WorkedEvents

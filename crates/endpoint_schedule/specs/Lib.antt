@@ -1,2 +1,6 @@
 pub mod Links
 pub mod OverTime
+pub mod RecentDeliveries
+pub mod EventDevices
+pub mod EventReceiving
+pub mod EventLaws

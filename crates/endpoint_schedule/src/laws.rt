@@ -1,6 +1,11 @@
-//! The law of both ends: the function does nothing and ensures it.
+//! Laws of both ends, over the definitions alone: each function does nothing and ensures its law.
 
 ghost use Rattle.endpoint_schedule.specs.OverTime.{BothEndsOverTime};
+ghost use Rattle.endpoint_schedule.specs.EventLaws.{EventsOverSchedules};
+ghost use Rattle.endpoint_schedule.specs.RecentDeliveries.{ComesWhileRecent};
+ghost use Rattle.mctp_schedule.specs.Worlds.{BothEnds};
+
+use pldm_platform::Platform;
 
 /// In every timely run of requesters and an endpoint whose device answers when it likes and whatever it likes, or
 /// never: what is handed out is, in order and once each, the requests that arrived, each at its first arrival, but for
@@ -19,4 +24,30 @@ pub fn both_ends_over_time()
     pldm_wire::laws::messages_fit();
     pldm_requester::laws::one_open_on_each_tag();
     pldm_requester::laws::instance_ids_are_apart();
+}
+
+/// Over a timely schedule, at every pace that suits the device, a request is delivered before its instance ID is used
+/// again: its requester opened at most 31 after it.
+pub fn deliveries_are_recent<P: Platform>()
+    ensures { (setting : BothEnds P.State) → ComesWhileRecent setting }
+{
+    mctp_schedule::laws::paced_logs_are_timely::<P>();
+    pldm_requester::laws::instance_ids_are_apart();
+    event_queue::laws::requests_come_before_their_ids_are_used();
+}
+
+/// Over a timely schedule of a device that keeps its events by the calls of an `EventQueue`, and of a requester that
+/// asks for them as an `EventReceiver` says, each event is taken once and in order: what was posted is what was
+/// dropped, and then what is in the queue; what was taken is what was dropped, or that and the queue's head.
+///
+/// The device's state is that of performing each request once, at its first arrival, which is the state of a
+/// `Responder` (`mctp_schedule::laws::performs_once`); a restart leaves it. Nobody else asks for events.
+pub fn events_over_schedules<P: Platform>()
+    ensures { (setting : BothEnds P.State) → EventsOverSchedules setting }
+{
+    deliveries_are_recent::<P>();
+    mctp_schedule::laws::paced_logs_are_timely::<P>();
+    mctp_schedule::laws::requesters_take_the_one_reply::<P>();
+    pldm_requester::laws::instance_ids_are_apart();
+    event_queue::laws::events_once();
 }

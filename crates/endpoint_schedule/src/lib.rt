@@ -1,5 +1,6 @@
-//! Both ends of a link whose device answers in its own time, or not at all: what holds of them together, whatever is
-//! lost, repeated or reordered. The requesters are those of `pldm_requester`, the device's end an `Endpoint`.
+//! Both ends of a link, whatever is lost, repeated or reordered. The requesters are those of `pldm_requester`. Of a device
+//! that answers in its own time, or not at all, behind an `Endpoint`: what holds of both ends together. Of one that keeps
+//! events, behind a `Responder`: that each event is taken once and in order.
 #![tactic(auto)]
 
 pub mod laws;
