@@ -1,0 +1,11 @@
+pub mod FieldNumbers
+pub mod FieldsRead
+pub mod RowsRead
+pub mod ReadCommands
+pub mod ReadAnswers
+pub mod FittingData
+pub mod DeedsInOrder
+pub mod OwnPieces
+pub mod OfferedImage
+mod AllApplied
+mod PieceParts
