@@ -1,12 +1,14 @@
 //! Tests of packets, also on SMBus and I3C (each PEC in them comes from another program), of messages of several
-//! packets, of PLDM messages, and of platform data records (bytes that were written by hand from the standard's
-//! layouts), over public calls.
+//! packets, of PLDM messages, of platform data records and of firmware update (bytes that were written by hand from the
+//! standards' layouts), and of a whole update, over public calls.
 #![tactic(auto)]
 
 #[cfg(test)]
 mod assembly;
 #[cfg(test)]
 mod expect;
+#[cfg(test)]
+mod firmware_update;
 #[cfg(test)]
 mod i3c;
 #[cfg(test)]
@@ -21,3 +23,5 @@ mod record_faults;
 mod records;
 #[cfg(test)]
 mod smbus;
+#[cfg(test)]
+mod whole_update;
