@@ -2,7 +2,9 @@
  * A requester on a serial line (DSP0253): it sets the value of an effecter and reads it back, as often as it is asked
  * to. Argument 1 is the line, a terminal such as /dev/ttyS0; argument 2 how many values are set. The device is at
  * endpoint 9, has the numeric effecter 1 of size uint8 with values 0 to 100, and keeps answers for a second, as
- * examples/device.toml says. It writes a line for each value, and ends with 0 where each was read back.
+ * examples/device.toml says. Arguments 3 and 4, where they are given, are the line's lifetime in milliseconds and the
+ * device's window: it then asks as fast as they allow. It writes a line for each value, and ends with 0 where each was
+ * read back.
  */
 #define _DEFAULT_SOURCE
 #include "needleoat.h"
@@ -17,7 +19,7 @@
 
 enum { MEMORY_TRIES = 3 };
 
-static const struct needleoat_requester_settings requester_settings = {
+static struct needleoat_requester_settings requester_settings = {
     .own = 8, .device = 9, .tries = 5, .keep_ms = 1000, .timeout_ms = 200};
 
 static int line;
@@ -52,10 +54,10 @@ static void send_request(uint64_t number) {
     send_packet(packet, needleoat_requester_packet(&requester, number, packet));
 }
 
-/* Hands in what has come, and waits at most 10 milliseconds for it. A packet for which there is no memory is lost. */
-static void listen(void) {
+/* Hands in what has come, and waits at most so many milliseconds for it. A packet without memory for it is lost. */
+static void listen(int most) {
     struct pollfd polled = {.fd = line, .events = POLLIN};
-    if (poll(&polled, 1, 10) < 0) fail("poll");
+    if (poll(&polled, 1, most) < 0) fail("poll");
     if (!(polled.revents & (POLLIN | POLLHUP | POLLERR))) return;
     uint8_t bytes[256];
     ssize_t count = read(line, bytes, sizeof bytes);
@@ -76,7 +78,7 @@ static void ask(const struct needleoat_command *command, struct needleoat_answer
     for (;;) {
         struct needleoat_opening opening = needleoat_requester_open(&requester, now(), request, length);
         if (opening.refusal == NEEDLEOAT_ID_IN_USE || opening.refusal == NEEDLEOAT_NO_MEMORY) {
-            listen();
+            listen(1);
             continue;
         }
         if (opening.refusal != 0) {
@@ -87,7 +89,7 @@ static void ask(const struct needleoat_command *command, struct needleoat_answer
         struct needleoat_status status;
         while (status = needleoat_requester_status(&requester, opening.number, response),
                status.kind == NEEDLEOAT_STATUS_OPEN) {
-            listen();
+            listen(10);
             struct needleoat_due due;
             if (needleoat_requester_tick(&requester, now(), &due) != 0) continue;
             for (uint32_t i = 0; i < due.again_count; i++) send_request(due.again[i]);
@@ -100,9 +102,14 @@ static void ask(const struct needleoat_command *command, struct needleoat_answer
 }
 
 int main(int count, char **words) {
-    if (count != 3) {
-        fprintf(stderr, "usage: %s LINE HOW_MANY\n", words[0]);
+    if (count != 3 && count != 5) {
+        fprintf(stderr, "usage: %s LINE HOW_MANY [LIFETIME WINDOW]\n", words[0]);
         return 2;
+    }
+    if (count == 5) {
+        requester_settings.lifetime_ms = (uint32_t)atoi(words[3]);
+        requester_settings.window = (uint32_t)atoi(words[4]);
+        requester_settings.timeout_ms = requester_settings.lifetime_ms / requester_settings.tries;
     }
     line = open(words[1], O_RDWR | O_NOCTTY);
     if (line < 0) fail(words[1]);
