@@ -17,7 +17,7 @@
 #include <time.h>
 #include <unistd.h>
 
-enum { MEMORY_TRIES = 3 };
+enum { MEMORY_TRIES = 3, MOST_SPREAD = 16, INSTANCE_IDS = 32 };
 
 static struct needleoat_requester_settings requester_settings = {
     .own = 8, .device = 9, .tries = 5, .keep_ms = 1000, .timeout_ms = 200};
@@ -49,6 +49,27 @@ static void send_packet(const uint8_t *packet, size_t length) {
     }
 }
 
+/*
+ * With a window requests are spread: one waits for the lifetime after the one so many before it, 16 or 32 less the
+ * window. A burst of all 32 would leave none to count, and then wait for twice the keeping time.
+ */
+static uint64_t openings[MOST_SPREAD], opened;
+
+static uint32_t spread(void) {
+    uint32_t window = requester_settings.window, free_ids = window > 0 ? INSTANCE_IDS - window : 0;
+    return free_ids < MOST_SPREAD ? free_ids : MOST_SPREAD;
+}
+
+static bool is_too_soon(void) {
+    uint32_t count = spread();
+    return count > 0 && opened >= count && now() < openings[opened % count] + requester_settings.lifetime_ms;
+}
+
+static void note_opening(void) {
+    uint32_t count = spread();
+    if (count > 0) openings[opened++ % count] = now();
+}
+
 static void send_request(uint64_t number) {
     uint8_t packet[NEEDLEOAT_PACKET_BYTES];
     send_packet(packet, needleoat_requester_packet(&requester, number, packet));
@@ -76,6 +97,10 @@ static void ask(const struct needleoat_command *command, struct needleoat_answer
     uint8_t request[NEEDLEOAT_REQUEST_BYTES], response[NEEDLEOAT_MESSAGE_BYTES];
     uint32_t length = needleoat_command_write(command, request);
     for (;;) {
+        if (is_too_soon()) {
+            listen(1);
+            continue;
+        }
         struct needleoat_opening opening = needleoat_requester_open(&requester, now(), request, length);
         if (opening.refusal == NEEDLEOAT_ID_IN_USE || opening.refusal == NEEDLEOAT_NO_MEMORY) {
             listen(1);
@@ -85,6 +110,7 @@ static void ask(const struct needleoat_command *command, struct needleoat_answer
             fprintf(stderr, "not opened: %u\n", opening.refusal);
             exit(1);
         }
+        note_opening();
         send_request(opening.number);
         struct needleoat_status status;
         while (status = needleoat_requester_status(&requester, opening.number, response),
