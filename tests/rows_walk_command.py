@@ -249,6 +249,8 @@ def refused(rows, place):
 # What is changed in the answers of board.toml's device: the bytes, what stands in their place; the exit status, and the
 # table that is left: a record that names itself as the next one, one that has another handle than was asked for, and
 # readings of 16 bits, which are refused. The first two end the records, before one of a sensor.
+# Between the ends is one more program, so an answer may take longer.
+PATIENT = ("--keep", "1500", "--timeout", "500", "--tries", "3")
 WORDS, NOT_SAID = ("sensor 1", "sensor 3", "sensor 4"), ("-", "refused INVALID_SENSOR_ID")
 CHANGED = (
     ("a record that comes again", "02510003000000", "02510002000000", 0, ()),
@@ -266,7 +268,7 @@ def changed(rows, place):
             ends = {"stdin": terminal.ours, "stdout": terminal.ours}
             served = subprocess.Popen(words, stderr=subprocess.DEVNULL, start_new_session=True, **ends)
             try:
-                ran = place.run("walk", "--line", terminal.name, *ENDS, *TIMES)
+                ran = place.run("walk", "--line", terminal.name, *ENDS, *PATIENT)
             finally:
                 os.killpg(served.pid, signal.SIGKILL)
                 served.wait()
