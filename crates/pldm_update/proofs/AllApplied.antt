@@ -12,11 +12,8 @@ use Rattle.pldm_update.specs.declared.agent_stage.DeviceReply.TheVariants.{Taken
 use Rattle.pldm_update.specs.Agents.{Agent, after_reply, cancelled, is_some_number, stage_after, stage_failed, tried, wish, wish_at}
 use Rattle.pldm_update.specs.DeviceRequests.{after_component, applied_at, expected, heard_at, is_applying, is_awaited, reported, transferred_at, verified_at}
 use Rattle.pldm_update.specs.AgentCalls.{Call, Opened, Answered, GaveUp, Fetch, TransferComplete, VerifyComplete, ApplyComplete, Tick, agent, applied_count, happens, counted, counted_at, unless_refused}
+use Rattle.pldm_update.proofs.DeedsInOrder.{by_test}
 use Rattle.pldm_update.specs.AgentLaws.{ActivatesWhatWasApplied}
-
-by_test : {A : Type 0} (P : A → Type 0) (test : Bool) (a b : A) → (test ≡ true → P a) → (test ≡ false → P b) → P (if test then a else b)
-by_test P true a b passed failed = passed refl
-by_test P false a b passed failed = failed refl
 
 -- how many components were applied at a stage
 abbrev At : AgentStage → ℕ → ℕ → Type 0

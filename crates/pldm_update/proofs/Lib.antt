@@ -9,3 +9,4 @@ pub mod OwnPieces
 pub mod OfferedImage
 mod AllApplied
 mod PieceParts
+mod Numbers

@@ -15,10 +15,10 @@ use Rattle.pldm_update.specs.declared.flash.FlashAction.{FlashAction}
 use Rattle.pldm_update.specs.declared.flash.FlashStep.{FlashStep}
 use Rattle.pldm_update.specs.DeviceStages.{is_idle}
 
--- the stage, the state before its own, the endpoint ID of the update agent, how many components the update has and how many of them are still to be passed,
--- the most bytes of a piece that the agent allows, the size of the image and how much of it is stored, whether a component
--- was applied, the number of the request that is open, how often it was asked for in vain, the number of the last step of
--- the flash, when the agent was last heard, and until when nothing is asked
+-- the stage, the state before its own, the endpoint ID of the update agent, how many components the update has and how
+-- many of them are still to be passed, the most bytes of a piece that the agent allows, the size of the image and how much
+-- of it is stored, whether a component was applied, the number of the request that is open, how often it was asked for in
+-- vain, the number of the last step of the flash, when the agent was last heard, and until when nothing is asked
 pub record Machine : Type 0 where
   pub stage : Stage
   pub previous : UpdateState
