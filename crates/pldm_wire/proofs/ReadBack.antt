@@ -1,6 +1,5 @@
 -- What is written is read back as the same instance ID and value.
 use Rattle.std.proofs.Common.{◌≡◌, ℕ, ◌<◌, Ok, refl, arith}
-use Rattle.pldm_wire.specs.Kinds.{IsKind}
 use Rattle.pldm_wire.specs.Requests.{request, request_of}
 use Rattle.pldm_wire.specs.Responses.{response, response_of}
 use Rattle.pldm_wire.specs.Commands.{kind_of, IsCommand, command_data, command_message}
@@ -8,38 +7,19 @@ use Rattle.pldm_wire.specs.CommandReading.{command_of}
 use Rattle.pldm_wire.specs.Answers.{IsAnswerTo, IsAnswer, code_of, answer_data, answer_message}
 use Rattle.pldm_wire.specs.AnswerReading.{answer_of}
 use Rattle.pldm_wire.specs.declared.command.Command.{Command}
-use Rattle.pldm_wire.specs.declared.command.Command.TheVariants.{SetTid, GetTid, GetPldmVersion, GetPldmTypes, GetPldmCommands, GetSensorReading, GetStateSensorReadings, SetNumericEffecterValue, GetNumericEffecterValue, SetStateEffecterStates, GetStateEffecterStates, GetPdrRepositoryInfo, GetPdr}
 use Rattle.pldm_wire.specs.declared.answer.Answer.{Answer}
 use Rattle.pldm_wire.proofs.ReadRequests as requests
 use Rattle.pldm_wire.proofs.ReadResponses as responses
 use Rattle.pldm_wire.proofs.ReadCommands as commands
 use Rattle.pldm_wire.proofs.ReadAnswers as answers
-use Rattle.pldm_wire.proofs.WrittenCommands as written_commands
-use Rattle.pldm_wire.proofs.WrittenAnswers as written_answers
 use Rattle.pldm_wire.specs.declared.assigned.TheConstants.{INSTANCE_IDS}
-
--- each command's PLDM type has six bits
-kind_is : (c : Command) → IsKind (kind_of c)
-kind_is (SetTid _) = omega arith
-kind_is GetTid = omega arith
-kind_is (GetPldmVersion _ _ _) = omega arith
-kind_is GetPldmTypes = omega arith
-kind_is (GetPldmCommands _ _) = omega arith
-kind_is (GetSensorReading _ _) = omega arith
-kind_is (GetStateSensorReadings _ _) = omega arith
-kind_is (SetNumericEffecterValue _ _) = omega arith
-kind_is (GetNumericEffecterValue _) = omega arith
-kind_is (SetStateEffecterStates _ _) = omega arith
-kind_is (GetStateEffecterStates _) = omega arith
-kind_is GetPdrRepositoryInfo = omega arith
-kind_is (GetPdr _ _ _ _ _) = omega arith
 
 pub command_read_back : (id : ℕ) (c : Command) → id < INSTANCE_IDS → IsCommand c
     → (request_of (command_message id c) ≡ Ok (request id (kind_of c) (command_data c))) × (command_of (kind_of c) (command_data c) ≡ Ok c)
 command_read_back id c id_range range = (
   requests.only (command_message id c) id (kind_of c) (command_data c)
-      (record { id_range = id_range; kind_range = kind_is c; reserved = 0; bit = omega arith; bytes_are = refl }),
-  commands.only c (kind_of c) (command_data c) (written_commands.written c range),
+      (record { id_range = id_range; kind_range = commands.kind_is c; reserved = 0; bit = omega arith; bytes_are = refl }),
+  commands.only c (kind_of c) (command_data c) (commands.written c range),
 )
 
 pub answer_read_back : (id : ℕ) (c : Command) (a : Answer) → id < INSTANCE_IDS → IsAnswerTo (kind_of c) a → IsAnswer a
@@ -47,7 +27,7 @@ pub answer_read_back : (id : ℕ) (c : Command) (a : Answer) → id < INSTANCE_I
     × (answer_of (kind_of c) (kind_of c) (code_of a) (answer_data a) ≡ Ok a)
 answer_read_back id c a id_range variant range = (
   responses.only (answer_message id (kind_of c) a) id (kind_of c) (code_of a) (answer_data a)
-      (record { id_range = id_range; kind_range = kind_is c; reserved = 0; bit = omega arith; bytes_are = refl }),
+      (record { id_range = id_range; kind_range = commands.kind_is c; reserved = 0; bit = omega arith; bytes_are = refl }),
   answers.only (kind_of c) a (kind_of c) (code_of a) (answer_data a)
-      (record { same_command = refl; fields = written_answers.written a (kind_of c) variant range }),
+      (record { same_command = refl; fields = answers.written a (kind_of c) variant range }),
 )

@@ -1,11 +1,11 @@
 //! An answer read from a response, for the command that it answers.
 
+ghost use Rattle.pldm_wire.specs.AnswerReading.{answer_by};
+ghost use Rattle.pldm_wire.specs.CommandTable.{base_rows, platform_rows};
 ghost use Rattle.std.specs.Prelude.{◌≡◌, ◌<◌, Ok, IfOk};
 ghost use Rattle.pldm_wire.specs.AnswerFaults.{number_of_answer_fault};
 ghost use Rattle.pldm_wire.specs.Commands.{kind_of};
 ghost use Rattle.pldm_wire.specs.AnswerReading.{AnswersCommand, AnswersKind, answer_of, success_of};
-ghost use Rattle.pldm_wire.specs.BaseAnswerReading.{base_answer_of};
-ghost use Rattle.pldm_wire.specs.PlatformAnswerReading.{platform_answer_of};
 ghost use Rattle.pldm_wire.specs.declared.answer.Answer.{Answer as AnswerValue};
 
 use crate::base::{
@@ -103,7 +103,7 @@ fn success_in(kind: Kind, bytes: &[u8]) -> Result<Answer, AnswerFault>
 
 /// The answer of messaging control and discovery (DSP0240) that this data is.
 fn base_answer_in(command: u8, bytes: &[u8]) -> Result<Answer, AnswerFault>
-    ensures { result ≡ base_answer_of command bytes.now }
+    ensures { result ≡ answer_by base_rows command bytes.now }
 {
     match command {
         SET_TID => no_data_in(Answer::SetTid, bytes),
@@ -117,7 +117,7 @@ fn base_answer_in(command: u8, bytes: &[u8]) -> Result<Answer, AnswerFault>
 
 /// The answer of platform monitoring and control (DSP0248) that this data is.
 fn platform_answer_in(command: u8, bytes: &[u8]) -> Result<Answer, AnswerFault>
-    ensures { result ≡ platform_answer_of command bytes.now }
+    ensures { result ≡ answer_by platform_rows command bytes.now }
 {
     match command {
         GET_SENSOR_READING => reading_answer_in(bytes),

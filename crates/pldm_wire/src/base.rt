@@ -1,10 +1,12 @@
 //! The data of the commands of messaging control and discovery (DSP0240) and of their answers, read and written.
 
+ghost use Rattle.pldm_wire.specs.CommandReading.{data_in, request_by, request_in, told_as};
+ghost use Rattle.pldm_wire.specs.AnswerReading.{answer_in};
+ghost use Rattle.pldm_wire.specs.declared.answer_reading.AnswerFault.TheVariants.{Length, Value};
+ghost use Rattle.pldm_wire.specs.CommandTable.{base_rows, get_pldm_commands, get_pldm_types, get_pldm_version, get_tid, no_data, set_tid};
 ghost use Rattle.std.specs.Prelude.{◌≡◌, ◌≤◌, [], ◌∷◌, ◌++◌, length};
 ghost use Rattle.arrayvec.specs.ArrayVec.{array_vec_len};
 ghost use Rattle.byteorder.specs.Endian.{little_bytes};
-ghost use Rattle.pldm_wire.specs.BaseCommandReading.{base_command_of, get_pldm_commands_of, get_pldm_types_of, get_pldm_version_of, get_tid_of, set_tid_of};
-ghost use Rattle.pldm_wire.specs.BaseAnswerReading.{commands_answer_of, no_data_of, tid_answer_of, types_answer_of, version_answer_of};
 ghost use Rattle.pldm_wire.specs.Versions.{IsVersionData};
 
 use crate::places::{array_in, u32_in};
@@ -19,7 +21,7 @@ use mctp_packet::Body;
 /// The command of this number that the data is.
 #[inline(always)]
 pub(crate) fn base_command_in(command: u8, bytes: &[u8]) -> Result<Command, Code>
-    ensures { result ≡ base_command_of command bytes.now }
+    ensures { result ≡ request_by base_rows command bytes.now }
 {
     match command {
         SET_TID => set_tid_in(bytes),
@@ -33,7 +35,7 @@ pub(crate) fn base_command_in(command: u8, bytes: &[u8]) -> Result<Command, Code
 
 /// SetTID: the terminus ID.
 fn set_tid_in(bytes: &[u8]) -> Result<Command, Code>
-    ensures { result ≡ set_tid_of bytes.now }
+    ensures { result ≡ request_in set_tid bytes.now }
 {
     match bytes {
         [tid] => Ok(Command::SetTid { tid: *tid }),
@@ -43,7 +45,7 @@ fn set_tid_in(bytes: &[u8]) -> Result<Command, Code>
 
 /// GetTID: no data.
 fn get_tid_in(bytes: &[u8]) -> Result<Command, Code>
-    ensures { result ≡ get_tid_of bytes.now }
+    ensures { result ≡ request_in get_tid bytes.now }
 {
     match bytes {
         [] => Ok(Command::GetTid),
@@ -53,7 +55,7 @@ fn get_tid_in(bytes: &[u8]) -> Result<Command, Code>
 
 /// GetPLDMVersion: transfer handle, operation, PLDM type.
 fn get_pldm_version_in(bytes: &[u8]) -> Result<Command, Code>
-    ensures { result ≡ get_pldm_version_of bytes.now }
+    ensures { result ≡ request_in get_pldm_version bytes.now }
 {
     match bytes {
         [_, _, _, _, transfer_operation_flag, pldm_type] => Ok(Command::GetPldmVersion {
@@ -67,7 +69,7 @@ fn get_pldm_version_in(bytes: &[u8]) -> Result<Command, Code>
 
 /// GetPLDMTypes: no data.
 fn get_pldm_types_in(bytes: &[u8]) -> Result<Command, Code>
-    ensures { result ≡ get_pldm_types_of bytes.now }
+    ensures { result ≡ request_in get_pldm_types bytes.now }
 {
     match bytes {
         [] => Ok(Command::GetPldmTypes),
@@ -77,7 +79,7 @@ fn get_pldm_types_in(bytes: &[u8]) -> Result<Command, Code>
 
 /// GetPLDMCommands: PLDM type, version.
 fn get_pldm_commands_in(bytes: &[u8]) -> Result<Command, Code>
-    ensures { result ≡ get_pldm_commands_of bytes.now }
+    ensures { result ≡ request_in get_pldm_commands bytes.now }
 {
     match bytes {
         [pldm_type, _, _, _, _] => Ok(Command::GetPldmCommands {
@@ -116,7 +118,7 @@ pub(crate) fn push_get_pldm_commands(body: &mut Body, pldm_type: u8, version: &[
 
 /// An answer with no data.
 pub(crate) fn no_data_in(answer: Answer, bytes: &[u8]) -> Result<Answer, AnswerFault>
-    ensures { result ≡ no_data_of answer bytes.now }
+    ensures { result ≡ told_as Length Value (data_in (no_data answer) bytes.now) }
 {
     match bytes {
         [] => Ok(answer),
@@ -126,7 +128,7 @@ pub(crate) fn no_data_in(answer: Answer, bytes: &[u8]) -> Result<Answer, AnswerF
 
 /// GetTID's answer: the terminus ID.
 pub(crate) fn tid_answer_in(bytes: &[u8]) -> Result<Answer, AnswerFault>
-    ensures { result ≡ tid_answer_of bytes.now }
+    ensures { result ≡ answer_in get_tid bytes.now }
 {
     match bytes {
         [tid] => Ok(Answer::GetTid { tid: *tid }),
@@ -138,7 +140,7 @@ pub(crate) fn tid_answer_in(bytes: &[u8]) -> Result<Answer, AnswerFault>
 // Not inlined, so that the answer is written where it is wanted and not copied there.
 #[inline(never)]
 pub(crate) fn version_answer_in(bytes: &[u8]) -> Result<Answer, AnswerFault>
-    ensures { result ≡ version_answer_of bytes.now }
+    ensures { result ≡ answer_in get_pldm_version bytes.now }
 {
     if bytes.len() < 5 {
         return Err(AnswerFault::Length);
@@ -159,8 +161,9 @@ pub(crate) fn version_answer_in(bytes: &[u8]) -> Result<Answer, AnswerFault>
 /// GetPLDMTypes' answer: a bit for each PLDM type.
 // Not inlined, so that the answer is written where it is wanted and not copied there.
 #[inline(never)]
+#[tactic(auto, using(crate::proofs::Placed::take_bytes))]
 pub(crate) fn types_answer_in(bytes: &[u8]) -> Result<Answer, AnswerFault>
-    ensures { result ≡ types_answer_of bytes.now }
+    ensures { result ≡ answer_in get_pldm_types bytes.now }
 {
     if bytes.len() != TYPES_BYTES {
         return Err(AnswerFault::Length);
@@ -173,8 +176,9 @@ pub(crate) fn types_answer_in(bytes: &[u8]) -> Result<Answer, AnswerFault>
 /// GetPLDMCommands' answer: a bit for each command.
 // Not inlined, so that the answer is written where it is wanted and not copied there.
 #[inline(never)]
+#[tactic(auto, using(crate::proofs::Placed::take_bytes))]
 pub(crate) fn commands_answer_in(bytes: &[u8]) -> Result<Answer, AnswerFault>
-    ensures { result ≡ commands_answer_of bytes.now }
+    ensures { result ≡ answer_in get_pldm_commands bytes.now }
 {
     if bytes.len() != COMMANDS_BYTES {
         return Err(AnswerFault::Length);

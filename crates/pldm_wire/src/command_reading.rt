@@ -1,9 +1,10 @@
 //! The command in a request, or the completion code by which it is refused (DSP0240).
 
+ghost use Rattle.pldm_wire.specs.CommandReading.{request_by};
+ghost use Rattle.pldm_wire.specs.CommandTable.{platform_rows};
 ghost use Rattle.std.specs.Prelude.{◌≡◌, Ok, IfOk};
 ghost use Rattle.pldm_wire.specs.Commands.{CommandFields};
 ghost use Rattle.pldm_wire.specs.CommandReading.{command_of};
-ghost use Rattle.pldm_wire.specs.PlatformCommandReading.{platform_command_of};
 ghost use Rattle.pldm_wire.specs.declared.command.Command.{Command as CommandValue};
 
 use crate::base::base_command_in;
@@ -52,7 +53,7 @@ fn command_in(kind: Kind, bytes: &[u8]) -> Result<Command, Code>
 /// The command of platform monitoring and control (DSP0248) of this number that the data is.
 #[inline(always)]
 fn platform_command_in(command: u8, bytes: &[u8]) -> Result<Command, Code>
-    ensures { result ≡ platform_command_of command bytes.now }
+    ensures { result ≡ request_by platform_rows command bytes.now }
 {
     match command {
         GET_SENSOR_READING => get_sensor_reading_in(bytes),

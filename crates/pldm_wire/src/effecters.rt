@@ -1,14 +1,15 @@
 //! The data of the commands of effecters (DSP0248) and of their answers, read and written.
 
+ghost use Rattle.pldm_wire.specs.CommandReading.{request_in};
+ghost use Rattle.pldm_wire.specs.AnswerReading.{answer_in};
+ghost use Rattle.pldm_wire.specs.CommandTable.{get_numeric_effecter_value, get_state_effecter_states, set_numeric_effecter_value, set_state_effecter_states};
 ghost use Rattle.std.specs.Prelude.{◌≡◌, ◌≤◌, ◌∷◌, ◌++◌, length};
 ghost use Rattle.std.specs.List.{flat_map};
 ghost use Rattle.arrayvec.specs.ArrayVec.{array_vec_len};
 ghost use Rattle.byteorder.specs.Endian.{little_bytes};
-ghost use Rattle.pldm_wire.specs.PlatformCommandReading.{get_numeric_effecter_value_of, get_state_effecter_states_of, set_numeric_effecter_value_of, set_state_effecter_states_of};
 ghost use Rattle.pldm_wire.specs.Sizes.{size_code};
 ghost use Rattle.pldm_wire.specs.Numbers.{IsNumber, number_bytes};
 ghost use Rattle.pldm_wire.specs.States.{IsComposite, effecter_bytes, set_bytes};
-ghost use Rattle.pldm_wire.specs.PlatformAnswerReading.{effecter_states_answer_of, values_answer_of};
 ghost use Rattle.pldm_wire.specs.EffecterNumbers.{IsPair};
 
 use crate::places::u16_in;
@@ -21,7 +22,7 @@ use mctp_packet::Body;
 
 /// SetNumericEffecterValue: effecter, data size, number.
 pub(crate) fn set_numeric_effecter_value_in(bytes: &[u8]) -> Result<Command, Code>
-    ensures { result ≡ set_numeric_effecter_value_of bytes.now }
+    ensures { result ≡ request_in set_numeric_effecter_value bytes.now }
 {
     let [_, _, code, _, ..] = bytes else {
         return Err(Code::ERROR_INVALID_LENGTH);
@@ -40,7 +41,7 @@ pub(crate) fn set_numeric_effecter_value_in(bytes: &[u8]) -> Result<Command, Cod
 
 /// GetNumericEffecterValue: effecter.
 pub(crate) fn get_numeric_effecter_value_in(bytes: &[u8]) -> Result<Command, Code>
-    ensures { result ≡ get_numeric_effecter_value_of bytes.now }
+    ensures { result ≡ request_in get_numeric_effecter_value bytes.now }
 {
     match bytes {
         [_, _] => Ok(Command::GetNumericEffecterValue {
@@ -54,7 +55,7 @@ pub(crate) fn get_numeric_effecter_value_in(bytes: &[u8]) -> Result<Command, Cod
 /// all eight fields; those past the count are then ignored.
 #[tactic(auto, using(crate::proofs::FieldLists::field_counts))]
 pub(crate) fn set_state_effecter_states_in(bytes: &[u8]) -> Result<Command, Code>
-    ensures { result ≡ set_state_effecter_states_of bytes.now }
+    ensures { result ≡ request_in set_state_effecter_states bytes.now }
 {
     let [_, _, count, ..] = bytes else {
         return Err(Code::ERROR_INVALID_LENGTH);
@@ -76,7 +77,7 @@ pub(crate) fn set_state_effecter_states_in(bytes: &[u8]) -> Result<Command, Code
 
 /// GetStateEffecterStates: effecter.
 pub(crate) fn get_state_effecter_states_in(bytes: &[u8]) -> Result<Command, Code>
-    ensures { result ≡ get_state_effecter_states_of bytes.now }
+    ensures { result ≡ request_in get_state_effecter_states bytes.now }
 {
     match bytes {
         [_, _] => Ok(Command::GetStateEffecterStates {
@@ -122,7 +123,7 @@ pub(crate) fn push_set_state_effecter_states(
 // Not inlined, so that the answer is written where it is wanted and not copied there.
 #[inline(never)]
 pub(crate) fn values_answer_in(bytes: &[u8]) -> Result<Answer, AnswerFault>
-    ensures { result ≡ values_answer_of bytes.now }
+    ensures { result ≡ answer_in get_numeric_effecter_value bytes.now }
 {
     let [code, operational, ..] = bytes else {
         return Err(AnswerFault::Length);
@@ -147,7 +148,7 @@ pub(crate) fn values_answer_in(bytes: &[u8]) -> Result<Answer, AnswerFault>
 #[inline(never)]
 #[tactic(auto, using(crate::proofs::FieldLists::field_counts))]
 pub(crate) fn effecter_states_answer_in(bytes: &[u8]) -> Result<Answer, AnswerFault>
-    ensures { result ≡ effecter_states_answer_of bytes.now }
+    ensures { result ≡ answer_in get_state_effecter_states bytes.now }
 {
     let [count, ..] = bytes else {
         return Err(AnswerFault::Length);

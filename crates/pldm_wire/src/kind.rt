@@ -1,7 +1,8 @@
 //! Which command a message is of: its PLDM type and the command's number (DSP0240, "PLDM message fields").
 
+ghost use Rattle.pldm_wire.specs.CommandTable.{base_rows, platform_rows};
 ghost use Rattle.std.specs.Prelude.{◌≡◌, option_map};
-ghost use Rattle.pldm_wire.specs.CommandNames.{base_name, name_of_kind, platform_name};
+ghost use Rattle.pldm_wire.specs.CommandNames.{name_by, name_of_kind};
 
 use crate::{
     BASE, GET_NUMERIC_EFFECTER_VALUE, GET_PDR, GET_PDR_REPOSITORY_INFO, GET_PLDM_COMMANDS,
@@ -50,7 +51,7 @@ impl Kind {
 
 /// The name of a command of messaging control and discovery (DSP0240).
 fn base_name(command: u8) -> Option<&'static str>
-    ensures { option_map (λ name. name.now) result ≡ base_name command }
+    ensures { option_map (λ name. name.now) result ≡ name_by base_rows command }
 {
     match command {
         SET_TID => Some("SetTID"),
@@ -64,7 +65,7 @@ fn base_name(command: u8) -> Option<&'static str>
 
 /// The name of a command of platform monitoring and control (DSP0248).
 fn platform_name(command: u8) -> Option<&'static str>
-    ensures { option_map (λ name. name.now) result ≡ platform_name command }
+    ensures { option_map (λ name. name.now) result ≡ name_by platform_rows command }
 {
     match command {
         GET_SENSOR_READING => Some("GetSensorReading"),

@@ -1,10 +1,11 @@
 //! The data of the commands of the PDR repository (DSP0248) and of their answers, read and written.
 
+ghost use Rattle.pldm_wire.specs.CommandReading.{request_in};
+ghost use Rattle.pldm_wire.specs.AnswerReading.{answer_in};
+ghost use Rattle.pldm_wire.specs.CommandTable.{get_pdr, get_pdr_repository_info};
 ghost use Rattle.std.specs.Prelude.{◌≡◌, ◌+◌, ◌<◌, ◌≤◌, [], ◌∷◌, ◌++◌, length};
 ghost use Rattle.arrayvec.specs.ArrayVec.{array_vec_len};
 ghost use Rattle.byteorder.specs.Endian.{little_bytes};
-ghost use Rattle.pldm_wire.specs.PlatformCommandReading.{get_pdr_of, get_pdr_repository_info_of};
-ghost use Rattle.pldm_wire.specs.PlatformAnswerReading.{part_answer_of, repository_answer_of};
 ghost use Rattle.pldm_wire.specs.TransferFlags.{flag_number};
 ghost use Rattle.pldm_wire.specs.RecordParts.{IsPart, checksum_bytes};
 
@@ -18,7 +19,7 @@ use mctp_packet::{Body, MAX_MESSAGE_BYTES};
 
 /// GetPDRRepositoryInfo: no data.
 pub(crate) fn get_pdr_repository_info_in(bytes: &[u8]) -> Result<Command, Code>
-    ensures { result ≡ get_pdr_repository_info_of bytes.now }
+    ensures { result ≡ request_in get_pdr_repository_info bytes.now }
 {
     match bytes {
         [] => Ok(Command::GetPdrRepositoryInfo),
@@ -28,7 +29,7 @@ pub(crate) fn get_pdr_repository_info_in(bytes: &[u8]) -> Result<Command, Code>
 
 /// GetPDR: record handle, transfer handle, operation, request count, change number.
 pub(crate) fn get_pdr_in(bytes: &[u8]) -> Result<Command, Code>
-    ensures { result ≡ get_pdr_of bytes.now }
+    ensures { result ≡ request_in get_pdr bytes.now }
 {
     if bytes.len() != 13 {
         return Err(Code::ERROR_INVALID_LENGTH);
@@ -67,8 +68,9 @@ pub(crate) fn push_get_pdr(
 /// size, largest record, timeout.
 // Not inlined, so that the answer is written where it is wanted and not copied there.
 #[inline(never)]
+#[tactic(auto, using(crate::proofs::Placed::take_bytes))]
 pub(crate) fn repository_answer_in(bytes: &[u8]) -> Result<Answer, AnswerFault>
-    ensures { result ≡ repository_answer_of bytes.now }
+    ensures { result ≡ answer_in get_pdr_repository_info bytes.now }
 {
     if bytes.len() != 40 {
         return Err(AnswerFault::Length);
@@ -89,7 +91,7 @@ pub(crate) fn repository_answer_in(bytes: &[u8]) -> Result<Answer, AnswerFault>
 // Not inlined, so that the answer is written where it is wanted and not copied there.
 #[inline(never)]
 pub(crate) fn part_answer_in(bytes: &[u8]) -> Result<Answer, AnswerFault>
-    ensures { result ≡ part_answer_of bytes.now }
+    ensures { result ≡ answer_in get_pdr bytes.now }
 {
     if bytes.len() < 11 {
         return Err(AnswerFault::Length);
@@ -101,15 +103,20 @@ pub(crate) fn part_answer_in(bytes: &[u8]) -> Result<Answer, AnswerFault>
     if count > MAX_PART_BYTES {
         return Err(AnswerFault::Value);
     }
-    if bytes.len() != 11 + count + usize::from(flag.is_end()) {
+    if bytes.len() < 11 + count {
         return Err(AnswerFault::Length);
     }
     let (_, rest) = bytes.split_at(11);
     let (part, checksum) = rest.split_at(count);
+    let transfer_crc = match (flag.is_end(), checksum) {
+        (false, []) => None,
+        (true, [transfer_crc]) => Some(*transfer_crc),
+        _ => return Err(AnswerFault::Length),
+    };
     Ok(Answer::GetPdr {
         next_record_handle: u32_in(bytes, 0),
         next_data_transfer_handle: u32_in(bytes, 4),
-        part: RecordPart::of(flag, part, checksum.first().copied()),
+        part: RecordPart::of(flag, part, transfer_crc),
     })
 }
 

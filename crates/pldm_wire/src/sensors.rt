@@ -1,11 +1,12 @@
 //! The data of the commands of sensors (DSP0248) and of their answers, read and written.
 
+ghost use Rattle.pldm_wire.specs.CommandReading.{request_in};
+ghost use Rattle.pldm_wire.specs.AnswerReading.{answer_in};
+ghost use Rattle.pldm_wire.specs.CommandTable.{get_sensor_reading, get_state_sensor_readings};
 ghost use Rattle.std.specs.Prelude.{◌≡◌, ◌≤◌, [], ◌∷◌, ◌++◌, length};
 ghost use Rattle.std.specs.List.{flat_map};
 ghost use Rattle.arrayvec.specs.ArrayVec.{array_vec_len};
 ghost use Rattle.byteorder.specs.Endian.{little_bytes};
-ghost use Rattle.pldm_wire.specs.PlatformCommandReading.{get_sensor_reading_of, get_state_sensor_readings_of};
-ghost use Rattle.pldm_wire.specs.PlatformAnswerReading.{reading_answer_of, sensor_states_answer_of};
 ghost use Rattle.pldm_wire.specs.Sizes.{size_code};
 ghost use Rattle.pldm_wire.specs.Numbers.{IsNumber, number_bytes};
 ghost use Rattle.pldm_wire.specs.States.{IsComposite, sensor_bytes};
@@ -20,7 +21,7 @@ use mctp_packet::Body;
 
 /// GetSensorReading: sensor, rearm.
 pub(crate) fn get_sensor_reading_in(bytes: &[u8]) -> Result<Command, Code>
-    ensures { result ≡ get_sensor_reading_of bytes.now }
+    ensures { result ≡ request_in get_sensor_reading bytes.now }
 {
     match bytes {
         [_, _, rearm] => Ok(Command::GetSensorReading {
@@ -33,7 +34,7 @@ pub(crate) fn get_sensor_reading_in(bytes: &[u8]) -> Result<Command, Code>
 
 /// GetStateSensorReadings: sensor, rearm, a reserved byte.
 pub(crate) fn get_state_sensor_readings_in(bytes: &[u8]) -> Result<Command, Code>
-    ensures { result ≡ get_state_sensor_readings_of bytes.now }
+    ensures { result ≡ request_in get_state_sensor_readings bytes.now }
 {
     match bytes {
         [_, _, rearm, _] => Ok(Command::GetStateSensorReadings {
@@ -68,7 +69,7 @@ pub(crate) fn push_get_state_sensor_readings(body: &mut Body, sensor: u16, rearm
 // Not inlined, so that the answer is written where it is wanted and not copied there.
 #[inline(never)]
 pub(crate) fn reading_answer_in(bytes: &[u8]) -> Result<Answer, AnswerFault>
-    ensures { result ≡ reading_answer_of bytes.now }
+    ensures { result ≡ answer_in get_sensor_reading bytes.now }
 {
     let [
         code,
@@ -103,7 +104,7 @@ pub(crate) fn reading_answer_in(bytes: &[u8]) -> Result<Answer, AnswerFault>
 #[inline(never)]
 #[tactic(auto, using(crate::proofs::FieldLists::field_counts))]
 pub(crate) fn sensor_states_answer_in(bytes: &[u8]) -> Result<Answer, AnswerFault>
-    ensures { result ≡ sensor_states_answer_of bytes.now }
+    ensures { result ≡ answer_in get_state_sensor_readings bytes.now }
 {
     let [count, ..] = bytes else {
         return Err(AnswerFault::Length);

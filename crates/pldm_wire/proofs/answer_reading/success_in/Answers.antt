@@ -1,5 +1,4 @@
 -- The commands of platform monitoring and control.
-use Rattle.std.proofs.Common.{sym, ◌∙◌, ap}
 use Rattle.pldm_wire.specs.AnswerReading.{success_of}
 use Rattle.pldm_wire.proofs.answer_reading.success_in.Goals as goal
 

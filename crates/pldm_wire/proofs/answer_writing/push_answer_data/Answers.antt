@@ -1,5 +1,5 @@
 -- What was added in turn is the row's data.
-use Rattle.std.proofs.Common.{append_assoc}
+use Rattle.std.proofs.Common.{append_assoc, append-nil}
 use Rattle.pldm_wire.proofs.answer_writing.push_answer_data.Goals as goal
 
 pub returns-in-GetPdrRepositoryInfo-clause-items : goal.returns-in-GetPdrRepositoryInfo-clause-items
@@ -8,4 +8,4 @@ returns-in-GetPdrRepositoryInfo-clause-items c =
     (simp append_assoc)
 
 pub returns-in-GetPdr-clause-items : goal.returns-in-GetPdr-clause-items
-returns-in-GetPdr-clause-items c = rw c.in-GetPdr.is c.push_part_answer.ensures.items
+returns-in-GetPdr-clause-items c = rw (c.in-GetPdr.is, append-nil) c.push_part_answer.ensures.items

@@ -1,5 +1,5 @@
 -- The written code and data have the answer's fields in them.
-use Rattle.pldm_wire.proofs.WrittenAnswers.{written}
+use Rattle.pldm_wire.proofs.ReadAnswers.{written}
 use Rattle.pldm_wire.proofs.answer_writing.put_answer.Goals as goal
 
 pub returns-clause-fields : goal.returns-clause-fields

@@ -1,5 +1,5 @@
 -- The written data has the command's fields in it.
-use Rattle.pldm_wire.proofs.WrittenCommands.{written}
+use Rattle.pldm_wire.proofs.ReadCommands.{written}
 use Rattle.pldm_wire.proofs.command_writing.put_command.Goals as goal
 
 pub returns-clause-fields : goal.returns-clause-fields

@@ -1,7 +1,7 @@
 -- Answers are read from responses, and what they are written as is read back.
 use Rattle.pldm_wire.specs.Commands.{kind_of}
 use Rattle.pldm_wire.proofs.ReadAnswers.{only}
-use Rattle.pldm_wire.proofs.WrittenAnswers.{written}
+use Rattle.pldm_wire.proofs.ReadAnswers.{written}
 use Rattle.pldm_wire.proofs.ReadBack.{answer_read_back}
 use Rattle.pldm_wire.proofs.laws.answers_are_read_back.Goals as goal
 

@@ -1,6 +1,6 @@
 -- Commands are read from their data, and what they are written as is read back.
 use Rattle.pldm_wire.proofs.ReadCommands.{only, one}
-use Rattle.pldm_wire.proofs.WrittenCommands.{written}
+use Rattle.pldm_wire.proofs.ReadCommands.{written}
 use Rattle.pldm_wire.proofs.ReadBack.{command_read_back}
 use Rattle.pldm_wire.proofs.laws.commands_are_read_back.Goals as goal
 
