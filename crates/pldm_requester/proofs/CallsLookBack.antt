@@ -18,22 +18,21 @@ use Rattle.mctp_assembly.specs.Rows as rows
 use Rattle.mctp_assembly.specs.Steps as assembling
 use Rattle.mctp_assembly.specs.declared.fed.Fed.{Fed}
 use Rattle.mctp_assembly.specs.declared.fed.Fed.TheVariants as feds
-use Rattle.pldm_wire.specs.Commands.{kind_of}
 use Rattle.pldm_wire.specs.Responses.{Response, response_of}
-use Rattle.pldm_wire.specs.declared.command.Command.{Command}
+use Rattle.pldm_requester.specs.Asks.{Ask}
 use Rattle.pldm_requester.specs.Arrivals.{Arrival, Drop, Part, Answer, got_of, response_arrival, fed_arrival, packet_arrival, passed_arrival}
 use Rattle.pldm_requester.specs.Calls as calls
-use Rattle.pldm_requester.specs.Calls.{Call, Open, Tick, Receive, Request, Requests, course_at, new_request, put, opened, with_request, is_open_at, open_answer, open_on, answer_key, is_from_device, numbers_of, ticked_request, fed_by, answered_by, requests, last_moment, with_packet, assembled}
+use Rattle.pldm_requester.specs.Calls.{Call, OpenRequest, Tick, Receive, Request, Requests, course_at, request_with, put, opened_for, with_request, is_open_at, open_answer, open_on, answer_key, is_from_device, numbers_of, ticked_request, fed_by, answered_by, requests, last_moment, with_packet, assembled}
 use Rattle.pldm_requester.specs.Courses.{Course, is_open, is_given_up, is_sent_again, ticked, answered}
 use Rattle.pldm_requester.specs.Pacing.{newest, is_too_soon, stride, is_crowded}
 use Rattle.pldm_requester.specs.Laws.{memo_of, memo_at, IsLeftBy, OpenLooksBack, TickLooksBack, ReceiveLooksBack, NewLooksBack, SameIsLeft, FewAreOpen}
-use Rattle.pldm_requester.specs.Numbering.{tag_of, packets_of}
+use Rattle.pldm_requester.specs.Numbering.{tag_of, packets_with}
 use Rattle.pldm_requester.specs.Steps as steps
-use Rattle.pldm_requester.specs.Steps.{Memo, RequesterState, IsHeld, is_recent, passes, course_of, with_course, latest_on, where_open, recent_numbers, is_mine_by, open_after, opened_held, opening_answer, again_at, given_up_at, ticked_held, arrived_by, remembered_after, got_at, held_by, received_held}
+use Rattle.pldm_requester.specs.Steps.{Memo, RequesterState, IsHeld, is_recent, passes, course_of, with_course, latest_on, where_open, recent_numbers, is_mine_by, open_after, opened_with, opening_answer, again_at, given_up_at, ticked_held, arrived_by, remembered_after, got_at, held_by, received_held}
 use Rattle.pldm_requester.specs.declared.pace.Pace.{Pace}
 use Rattle.pldm_requester.specs.declared.timing.Timing.{Timing}
 use Rattle.pldm_requester.proofs.SlotLists.{recent_parts, recent_from}
-use Rattle.pldm_requester.proofs.OpenRequests.{put_here, put_other, Recent, within, recent, given_up_open, sent_again_open, came_course, came_command, came_count, came_by, came_by_count}
+use Rattle.pldm_requester.proofs.OpenRequests.{put_here, put_other, Recent, within, recent, given_up_open, sent_again_open, came_course, came_ask, came_count, came_by, came_by_count}
 use Rattle.pldm_requester.proofs.NewestRequests.{newest_same, stride_range}
 use Rattle.pldm_requester.proofs.TagSearch.{latest_is}
 use Rattle.pldm_requester.proofs.FedPackets.{expected, comes_to, goes_where, fed_since}
@@ -201,17 +200,17 @@ module _ (own device : ℕ) (timing : Timing) (pace : Pace) where
   accepts_is : (open_messages : assembling.OpenMessages) (last : ℕ) (a : Requests) (moment : ℕ) → Recent a → steps.accepts (left_by open_messages last a) moment ≡ calls.accepts timing.keep pace a moment
   accepts_is open_messages last a moment f = λ i. not (tag_is open_messages last a f i) && not (id_is open_messages last a moment i)
 
-  memo_opened : (a : Requests) (moment : ℕ) (command : Command) (n : ℕ) (new : Memo) → new ≡ memo_of own device (opened a moment command) a.count
-      → cond (n == a.count) (Some new) (cond (is_recent (a.count + 1) n) (memo_at own device a n) None) ≡ memo_at own device (opened a moment command) n
-  memo_opened a moment command n new is = go (cases_eq n a.count) (is_recent (suc a.count) n) refl
+  memo_opened : (a : Requests) (moment : ℕ) (ask : Ask) (n : ℕ) (new : Memo) → new ≡ memo_of own device (opened_for a moment ask) a.count
+      → cond (n == a.count) (Some new) (cond (is_recent (a.count + 1) n) (memo_at own device a n) None) ≡ memo_at own device (opened_for a moment ask) n
+  memo_opened a moment ask n new is = go (cases_eq n a.count) (is_recent (suc a.count) n) refl
     where
       one : a.count + 1 ≡ suc a.count
       one = omega arith
 
       go : (n ≡ a.count) ⊎ (n ≡ a.count → ⊥) → (t : Bool) → is_recent (suc a.count) n ≡ t
-          → cond (n == a.count) (Some new) (cond (is_recent (a.count + 1) n) (memo_at own device a n) None) ≡ cond t (Some (memo_of own device (opened a moment command) n)) None
+          → cond (n == a.count) (Some new) (cond (is_recent (a.count + 1) n) (memo_at own device a n) None) ≡ cond t (Some (memo_of own device (opened_for a moment ask) n)) None
       go (inl same) true r =
-          cond-true (n == a.count) _ _ (eq-eqb n a.count same) ∙ ap Some (is ∙ ap (memo_of own device (opened a moment command)) (sym same))
+          cond-true (n == a.count) _ _ (eq-eqb n a.count same) ∙ ap Some (is ∙ ap (memo_of own device (opened_for a moment ask)) (sym same))
       go (inl same) false r =
           let here : is_recent (suc a.count) n ≡ true = recent_from (suc a.count) n (omega arith) (omega arith) in absurd (cc)
       go (inr other) true r =
@@ -220,45 +219,45 @@ module _ (own device : ℕ) (timing : Timing) (pace : Pace) where
           ∙ ap (λ k. cond (is_recent k n) (memo_at own device a n) None) one
           ∙ cond-true (is_recent (suc a.count) n) _ _ r
           ∙ memo_there own device a n (recent_from a.count n (omega (arith, p.0, other)) (omega (arith, p.1)))
-          ∙ ap (λ (x : Request). Some (record { kind = kind_of x.command; packets = packets_of own device n x.command; course = x.course })) (sym (put_other a.each a.count (new_request moment command) n other))
+          ∙ ap (λ (x : Request). Some (record { kind = x.ask.kind; packets = packets_with own device n x.ask; course = x.course })) (sym (put_other a.each a.count (request_with moment ask) n other))
       go (inr other) false r =
           cond-false (n == a.count) _ _ (ne_eqb n a.count other)
           ∙ ap (λ k. cond (is_recent k n) (memo_at own device a n) None) one
           ∙ cond-false (is_recent (suc a.count) n) _ _ r
 
-  opened_leaves : (looks : assembly.ForgetLooksBack) (open_messages : assembling.OpenMessages) (last : ℕ) (a : Requests) (packets : List histories.Call) (moment : ℕ) (command : Command) → histories.IsLeftBy open_messages packets
-      → Leaves (opened_held (left_by open_messages last a) moment command) (opened a moment command) (histories.forget (answer_key device (tag_of a.count)) ∷ packets) moment
-  opened_leaves looks open_messages last a packets moment command left = record {
+  opened_leaves : (looks : assembly.ForgetLooksBack) (open_messages : assembling.OpenMessages) (last : ℕ) (a : Requests) (packets : List histories.Call) (moment : ℕ) (ask : Ask) → histories.IsLeftBy open_messages packets
+      → Leaves (opened_with (left_by open_messages last a) moment ask) (opened_for a moment ask) (histories.forget (answer_key device (tag_of a.count)) ∷ packets) moment
+  opened_leaves looks open_messages last a packets moment ask left = record {
     endpoint = refl;
     peer = refl;
     times = refl;
     paced = refl;
     count = omega arith;
-    remembered = λ n. memo_opened a moment command n _ (ap (λ (x : Request). record { kind = kind_of x.command; packets = packets_of own device a.count x.command; course = x.course }) (sym (put_here a.each a.count (new_request moment command) a.count refl)));
+    remembered = λ n. memo_opened a moment ask n _ (ap (λ (x : Request). record { kind = x.ask.kind; packets = packets_with own device a.count x.ask; course = x.course }) (sym (put_here a.each a.count (request_with moment ask) a.count refl)));
     open_messages = looks MAX_PACKETS open_messages packets (answer_key device (tag_of a.count)) left;
     last = refl;
   }
 
   -- ---- a tick
-  abbrev memo_from : ℕ → Command → Course → ℕ → Option Memo
-  memo_from count command course n =
-      if is_recent count n then Some (record { kind = kind_of command; packets = packets_of own device n command; course = course }) else None
+  abbrev memo_from : ℕ → Ask → Course → ℕ → Option Memo
+  memo_from count ask course n =
+      if is_recent count n then Some (record { kind = ask.kind; packets = packets_with own device n ask; course = course }) else None
 
-  map_from : (count : ℕ) (command : Command) (course : Course) (change : Course → Course) (n : ℕ) → option_map (with_course change) (memo_from count command course n) ≡ memo_from count command (change course) n
-  map_from count command course change n = go (is_recent count n)
+  map_from : (count : ℕ) (ask : Ask) (course : Course) (change : Course → Course) (n : ℕ) → option_map (with_course change) (memo_from count ask course n) ≡ memo_from count ask (change course) n
+  map_from count ask course change n = go (is_recent count n)
     where
-      go : (b : Bool) → option_map (with_course change) (if b then Some (record { kind = kind_of command; packets = packets_of own device n command; course = course }) else None)
-          ≡ (if b then Some (record { kind = kind_of command; packets = packets_of own device n command; course = change course }) else None)
+      go : (b : Bool) → option_map (with_course change) (if b then Some (record { kind = ask.kind; packets = packets_with own device n ask; course = course }) else None)
+          ≡ (if b then Some (record { kind = ask.kind; packets = packets_with own device n ask; course = change course }) else None)
       go true = refl
       go false = refl
 
-  memo_same : (a b : Requests) (n : ℕ) → a.count ≡ b.count → (a.each n).command ≡ (b.each n).command → (a.each n).course ≡ (b.each n).course → memo_at own device a n ≡ memo_at own device b n
-  memo_same a b n count command course = λ i. memo_from (count i) (command i) (course i) n
+  memo_same : (a b : Requests) (n : ℕ) → a.count ≡ b.count → (a.each n).ask ≡ (b.each n).ask → (a.each n).course ≡ (b.each n).course → memo_at own device a n ≡ memo_at own device b n
+  memo_same a b n count ask course = λ i. memo_from (count i) (ask i) (course i) n
 
-  memo_changed : (a b : Requests) (change : Course → Course) (n : ℕ) → a.count ≡ b.count → (a.each n).command ≡ (b.each n).command → change (a.each n).course ≡ (b.each n).course
+  memo_changed : (a b : Requests) (change : Course → Course) (n : ℕ) → a.count ≡ b.count → (a.each n).ask ≡ (b.each n).ask → change (a.each n).course ≡ (b.each n).course
       → option_map (with_course change) (memo_at own device a n) ≡ memo_at own device b n
-  memo_changed a b change n count command course =
-      map_from a.count (a.each n).command (a.each n).course change n ∙ (λ i. memo_from (count i) (command i) (course i) n)
+  memo_changed a b change n count ask course =
+      map_from a.count (a.each n).ask (a.each n).course change n ∙ (λ i. memo_from (count i) (ask i) (course i) n)
 
   tick_leaves : (open_messages : assembling.OpenMessages) (last : ℕ) (a : Requests) (packets : List histories.Call) (moment : ℕ) → histories.IsLeftBy open_messages packets
       → Leaves (ticked_held (left_by open_messages last a) moment) (record { count = a.count; each = λ n. ticked_request own device timing moment (a.each n) }) packets moment
@@ -316,8 +315,8 @@ module _ (own device : ℕ) (timing : Timing) (pace : Pace) where
 
     remembered_is : (read : Result Packet Reason) (arrival : Arrival) (k : ℕ)
         → remembered_after (left_by open_messages last now) arrival k ≡ memo_at own device (answered_by own device timing (fed_by own device timing now read) arrival) k
-    remembered_is read (Drop reason) k = memo_same now (fed_by own device timing now read) k (sym (came_count own device timing now read)) (sym (came_command own device timing now read k)) (sym (came_course own device timing now read k))
-    remembered_is read Part k = memo_same now (fed_by own device timing now read) k (sym (came_count own device timing now read)) (sym (came_command own device timing now read k)) (sym (came_course own device timing now read k))
+    remembered_is read (Drop reason) k = memo_same now (fed_by own device timing now read) k (sym (came_count own device timing now read)) (sym (came_ask own device timing now read k)) (sym (came_course own device timing now read k))
+    remembered_is read Part k = memo_same now (fed_by own device timing now read) k (sym (came_count own device timing now read)) (sym (came_ask own device timing now read k)) (sym (came_course own device timing now read k))
     remembered_is read (Answer n message) k = go (cases_eq k n)
       where
         after : Requests
@@ -325,16 +324,16 @@ module _ (own device : ℕ) (timing : Timing) (pace : Pace) where
 
         go : (k ≡ n) ⊎ (k ≡ n → ⊥) → cond (k == n) (option_map (with_course (answered message)) (memo_at own device now k)) (memo_at own device now k) ≡ memo_at own device (answered_by own device timing (fed_by own device timing now read) (Answer n message)) k
         go (inl same) =
-            let here = put_here (fed_by own device timing now read).each n (record { command = ((fed_by own device timing now read).each n).command; course = answered message ((fed_by own device timing now read).each n).course; fed = ((fed_by own device timing now read).each n).fed }) k same in
+            let here = put_here (fed_by own device timing now read).each n (record { ask = ((fed_by own device timing now read).each n).ask; course = answered message ((fed_by own device timing now read).each n).course; fed = ((fed_by own device timing now read).each n).fed }) k same in
             cond-true (k == n) _ _ (eq-eqb k n same)
             ∙ memo_changed now (answered_by own device timing (fed_by own device timing now read) (Answer n message)) (answered message) k (sym (came_count own device timing now read))
-            (sym (ap (λ (r : Request). r.command) here ∙ came_command own device timing now read n ∙ ap (λ i. (now.each i).command) (sym same)))
+            (sym (ap (λ (r : Request). r.ask) here ∙ came_ask own device timing now read n ∙ ap (λ i. (now.each i).ask) (sym same)))
             (sym (ap (λ (r : Request). r.course) here ∙ ap (answered message) (came_course own device timing now read n ∙ ap (λ i. (now.each i).course) (sym same))))
         go (inr other) =
-            let there = put_other (fed_by own device timing now read).each n (record { command = ((fed_by own device timing now read).each n).command; course = answered message ((fed_by own device timing now read).each n).course; fed = ((fed_by own device timing now read).each n).fed }) k other in
+            let there = put_other (fed_by own device timing now read).each n (record { ask = ((fed_by own device timing now read).each n).ask; course = answered message ((fed_by own device timing now read).each n).course; fed = ((fed_by own device timing now read).each n).fed }) k other in
             cond-false (k == n) _ _ (ne_eqb k n other)
             ∙ memo_same now (answered_by own device timing (fed_by own device timing now read) (Answer n message)) k (sym (came_count own device timing now read))
-            (sym (ap (λ (r : Request). r.command) there ∙ came_command own device timing now read k))
+            (sym (ap (λ (r : Request). r.ask) there ∙ came_ask own device timing now read k))
             (sym (ap (λ (r : Request). r.course) there ∙ came_course own device timing now read k))
 
     opens_is : (read : Result Packet Reason) → histories.IsLeftBy (open_after open_messages read) (with_packet own device timing read (assembled own device timing pace before))
@@ -368,9 +367,9 @@ module _ (own device : ℕ) (timing : Timing) (pace : Pace) where
   }
 
   -- an open that is accepted, or not
-  module _ (held : RequesterState) (before : List Call) (moment : ℕ) (command : Command) where
+  module _ (held : RequesterState) (before : List Call) (moment : ℕ) (ask : Ask) where
     abbrev requests_by : Bool → Requests
-    requests_by b = cond b (opened (requests own device timing pace before) moment command) (requests own device timing pace before)
+    requests_by b = cond b (opened_for (requests own device timing pace before) moment ask) (requests own device timing pace before)
 
     abbrev packets_by : Bool → List histories.Call
     packets_by b = cond b (histories.forget (answer_key device (tag_of (requests own device timing pace before).count)) ∷ assembled own device timing pace before) (assembled own device timing pace before)
@@ -378,20 +377,20 @@ module _ (own device : ℕ) (timing : Timing) (pace : Pace) where
     abbrev last_by : Bool → ℕ
     last_by b = cond b moment (last_moment own device timing pace before)
 
-    open_leaves : (b : Bool) → calls.accepts timing.keep pace (requests own device timing pace before) moment ≡ b → Leaves held (requests_by b) (packets_by b) (last_by b) → IsLeftBy own device timing pace held (Open moment command ∷ before)
-    open_leaves b is l = leaves_calls held (Open moment command ∷ before) (subst (λ t. Leaves held (requests_by t) (packets_by t) (last_by t)) (sym is) l)
+    open_leaves : (b : Bool) → calls.accepts timing.keep pace (requests own device timing pace before) moment ≡ b → Leaves held (requests_by b) (packets_by b) (last_by b) → IsLeftBy own device timing pace held (OpenRequest moment ask ∷ before)
+    open_leaves b is l = leaves_calls held (OpenRequest moment ask ∷ before) (subst (λ t. Leaves held (requests_by t) (packets_by t) (last_by t)) (sym is) l)
 
 pub open_looks_back : assembly.ForgetLooksBack → OpenLooksBack
-open_looks_back looks own device timing pace held before moment command left =
+open_looks_back looks own device timing pace held before moment ask left =
     let a = requests own device timing pace before in
     let f = recent own device timing pace before in
     let same = held_is own device timing pace held before left in
     let accepted = ap (λ h. steps.accepts h moment) same ∙ accepts_is own device timing pace held.open_messages held.last a moment f in (
       ap (λ h. opening_answer h moment) same ∙ answer_is own device timing pace held.open_messages held.last a moment f,
       accepted,
-      λ ok. subst (λ h. IsLeftBy own device timing pace (opened_held h moment command) (Open moment command ∷ before)) (sym same)
-          (open_leaves own device timing pace (opened_held (left_by own device timing pace held.open_messages held.last a) moment command) before moment command true (sym accepted ∙ ok) (opened_leaves own device timing pace looks held.open_messages held.last a (assembled own device timing pace before) moment command left.open_messages)),
-      λ refused. open_leaves own device timing pace held before moment command false (sym accepted ∙ refused) (calls_leave own device timing pace held before left),
+      λ ok. subst (λ h. IsLeftBy own device timing pace (opened_with h moment ask) (OpenRequest moment ask ∷ before)) (sym same)
+          (open_leaves own device timing pace (opened_with (left_by own device timing pace held.open_messages held.last a) moment ask) before moment ask true (sym accepted ∙ ok) (opened_leaves own device timing pace looks held.open_messages held.last a (assembled own device timing pace before) moment ask left.open_messages)),
+      λ refused. open_leaves own device timing pace held before moment ask false (sym accepted ∙ refused) (calls_leave own device timing pace held before left),
     )
 
 pub tick_looks_back : TickLooksBack

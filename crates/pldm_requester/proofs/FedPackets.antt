@@ -11,9 +11,9 @@ use Rattle.mctp_packet.specs.declared.reason.Reason.TheVariants.{BadTag}
 use Rattle.mctp_assembly.specs.Histories as assembly
 use Rattle.mctp_assembly.specs.Keys.{key_cmp, key_of}
 use Rattle.mctp_assembly.specs.declared.key.Key.{Key}
-use Rattle.pldm_wire.specs.declared.command.Command.{Command}
+use Rattle.pldm_requester.specs.Asks.{Ask}
 use Rattle.pldm_requester.specs.Arrivals.{passed_arrival}
-use Rattle.pldm_requester.specs.Calls.{Call, Open, Tick, Receive, Request, Requests, new_request, put, opened, is_open_at, accepts, open_on, answer_key, is_from_device, goes_to, passed, gives, is_mine, fed_to, fed_by, after_call, requests, with_packet, assembled}
+use Rattle.pldm_requester.specs.Calls.{Call, OpenRequest, Tick, Receive, Request, Requests, request_with, put, opened_for, is_open_at, accepts, open_on, answer_key, is_from_device, goes_to, passed, gives, is_mine, fed_to, fed_by, after_call, requests, with_packet, assembled}
 use Rattle.pldm_requester.specs.Courses.{is_open}
 use Rattle.pldm_requester.specs.Laws.{FedSinceItsOpening, BeginsWithNone}
 use Rattle.pldm_requester.specs.Numbering.{tag_of}
@@ -93,25 +93,25 @@ module _ (own device : ℕ) (timing : Timing) where
   abbrev Fed : Requests → List assembly.Call → Type 0
   Fed a packets = (n : ℕ) → is_open_at a n ≡ true → assembly.since (answer_key device (tag_of n)) packets ≡ (a.each n).fed
 
-  fed_opened : (pace : Pace) (a : Requests) (packets : List assembly.Call) (moment : ℕ) (command : Command) → Recent a → accepts timing.keep pace a moment ≡ true → Fed a packets
-      → Fed (opened a moment command) (assembly.forget (answer_key device (tag_of a.count)) ∷ packets)
-  fed_opened pace a packets moment command f ok fed n now = go (cases_eq n a.count)
+  fed_opened : (pace : Pace) (a : Requests) (packets : List assembly.Call) (moment : ℕ) (ask : Ask) → Recent a → accepts timing.keep pace a moment ≡ true → Fed a packets
+      → Fed (opened_for a moment ask) (assembly.forget (answer_key device (tag_of a.count)) ∷ packets)
+  fed_opened pace a packets moment ask f ok fed n now = go (cases_eq n a.count)
     where
-      new : Recent (opened a moment command)
-      new = recent_opened a moment command f (accepted_tag timing.keep pace a moment ok)
+      new : Recent (opened_for a moment ask)
+      new = recent_opened a moment ask f (accepted_tag timing.keep pace a moment ok)
 
-      go : (n ≡ a.count) ⊎ (n ≡ a.count → ⊥) → assembly.since (answer_key device (tag_of n)) (assembly.forget (answer_key device (tag_of a.count)) ∷ packets) ≡ (put a.each a.count (new_request moment command) n).fed
+      go : (n ≡ a.count) ⊎ (n ≡ a.count → ⊥) → assembly.since (answer_key device (tag_of n)) (assembly.forget (answer_key device (tag_of a.count)) ∷ packets) ≡ (put a.each a.count (request_with moment ask) n).fed
       go (inl same) =
           ap (λ k. assembly.since (answer_key device (tag_of k)) (assembly.forget (answer_key device (tag_of a.count)) ∷ packets)) same
           ∙ since_forgotten packets device (tag_of a.count)
-          ∙ sym (ap (λ (r : Request). r.fed) (put_here a.each a.count (new_request moment command) n same))
+          ∙ sym (ap (λ (r : Request). r.fed) (put_here a.each a.count (request_with moment ask) n same))
       go (inr other) =
-          let b = within (opened a moment command) n new now in
+          let b = within (opened_for a moment ask) n new now in
           let low : n < a.count = omega (arith, b.0, other) in
           let near : a.count ≤ n + 7 = omega (arith, b.1) in
           since_other_forgotten packets device (tag_of n) (tag_of a.count) (λ e. absurd (omega arith))
-          ∙ fed n (sym (ap (λ (r : Request). is_open r.course) (put_other a.each a.count (new_request moment command) n other)) ∙ now)
-          ∙ sym (ap (λ (r : Request). r.fed) (put_other a.each a.count (new_request moment command) n other))
+          ∙ fed n (sym (ap (λ (r : Request). is_open r.course) (put_other a.each a.count (request_with moment ask) n other)) ∙ now)
+          ∙ sym (ap (λ (r : Request). r.fed) (put_other a.each a.count (request_with moment ask) n other))
 
   fed_came : (a : Requests) (packets : List assembly.Call) (p : Packet) (m : ℕ) → Recent a → goes_to own device timing a p ≡ Some m → Fed a packets
       → (n : ℕ) → is_open_at a n ≡ true → assembly.since (answer_key device (tag_of n)) (assembly.feed p ∷ packets) ≡ ((fed_to own device timing a p (Some m)).each n).fed
@@ -145,11 +145,11 @@ module _ (own device : ℕ) (timing : Timing) where
 module _ (own device : ℕ) (timing : Timing) (pace : Pace) where
   pub fed_since : (calls : List Call) → Fed own device timing (requests own device timing pace calls) (assembled own device timing pace calls)
   fed_since [] = λ n now. absurd (cc)
-  fed_since (Open moment command ∷ calls) = go (accepts timing.keep pace (requests own device timing pace calls) moment) refl (fed_since calls)
+  fed_since (OpenRequest moment ask ∷ calls) = go (accepts timing.keep pace (requests own device timing pace calls) moment) refl (fed_since calls)
     where
       go : (b : Bool) → accepts timing.keep pace (requests own device timing pace calls) moment ≡ b → Fed own device timing (requests own device timing pace calls) (assembled own device timing pace calls)
-          → Fed own device timing (cond b (opened (requests own device timing pace calls) moment command) (requests own device timing pace calls)) (cond b (assembly.forget (answer_key device (tag_of (requests own device timing pace calls).count)) ∷ assembled own device timing pace calls) (assembled own device timing pace calls))
-      go true ok fed = fed_opened own device timing pace (requests own device timing pace calls) (assembled own device timing pace calls) moment command (recent own device timing pace calls) ok fed
+          → Fed own device timing (cond b (opened_for (requests own device timing pace calls) moment ask) (requests own device timing pace calls)) (cond b (assembly.forget (answer_key device (tag_of (requests own device timing pace calls).count)) ∷ assembled own device timing pace calls) (assembled own device timing pace calls))
+      go true ok fed = fed_opened own device timing pace (requests own device timing pace calls) (assembled own device timing pace calls) moment ask (recent own device timing pace calls) ok fed
       go false ok fed = fed
   fed_since (Tick moment ∷ calls) =
       let a = requests own device timing pace calls in
@@ -162,7 +162,7 @@ pub fed_since_its_opening : FedSinceItsOpening
 fed_since_its_opening own device timing pace calls number now = fed_since own device timing pace calls number now
 
 pub begins_with_none : BeginsWithNone
-begins_with_none own device timing pace calls moment command ok =
+begins_with_none own device timing pace calls moment ask ok =
     let tag = tag_of (requests own device timing pace calls).count in
     ap (assembly.since (answer_key device tag)) (cond-true (accepts timing.keep pace (requests own device timing pace calls) moment) _ _ ok)
     ∙ since_forgotten (assembled own device timing pace calls) device tag

@@ -4,8 +4,8 @@ use Rattle.std.proofs.Common.{◌≡◌, ◌⊎◌, ℕ, zero, suc, ◌+◌, ◌
 use Rattle.std.specs.Prelude.{◌&&◌, ◌||◌, nat_lt, nat_le}
 use Rattle.std.proofs.lemmas.Bool.{and_cases, or_parts, cases_eq, leb-false, ltb-false}
 use Rattle.std.proofs.Math.Bool.{or-false}
-use Rattle.pldm_wire.specs.declared.command.Command.{Command}
-use Rattle.pldm_requester.specs.Calls.{Call, Open, Tick, Receive, Request, Requests, course_at, new_request, opened, has_id_before, has_many_before, is_id_in_use, accepts, passed, after_call, requests, last_moment}
+use Rattle.pldm_requester.specs.Asks.{Ask}
+use Rattle.pldm_requester.specs.Calls.{Call, OpenRequest, Tick, Receive, Request, Requests, course_at, request_with, opened_for, has_id_before, has_many_before, is_id_in_use, accepts, passed, after_call, requests, last_moment}
 use Rattle.pldm_requester.specs.Courses.{Course, is_answered}
 use Rattle.pldm_requester.specs.Laws.{IsInOrder, OpenedBefore, IdsApart, FreedEarly, SpreadOut, DefaultPaceGoesByTime}
 use Rattle.pldm_requester.specs.Pacing.{at_default, newest, answered_after, is_too_soon, stride, is_crowded}
@@ -88,18 +88,18 @@ apart_same keep pace a b now f same opening stays = record {
 }
 
 -- one more request
-module _ (keep : ℕ) (pace : Pace) (a : Requests) (now moment : ℕ) (command : Command) (f : Apart keep pace a now) (later : now ≤ moment) (free : is_id_in_use keep pace a moment ≡ false) where
+module _ (keep : ℕ) (pace : Pace) (a : Requests) (now moment : ℕ) (ask : Ask) (f : Apart keep pace a now) (later : now ≤ moment) (free : is_id_in_use keep pace a moment ≡ false) where
   abbrev new : Requests
-  new = opened a moment command
+  new = opened_for a moment ask
 
   old_course : (n : ℕ) → n < a.count → course_at new n ≡ course_at a n
-  old_course n l = ap (λ (r : Request). r.course) (put_other a.each a.count (new_request moment command) n (λ e. omega arith))
+  old_course n l = ap (λ (r : Request). r.course) (put_other a.each a.count (request_with moment ask) n (λ e. omega arith))
 
   old_opening : (n : ℕ) → n < a.count → (new.each n).course.opening ≡ (a.each n).course.opening
   old_opening n l = ap (λ (c : Course). c.opening) (old_course n l)
 
   new_opening : (n : ℕ) → n ≡ a.count → (new.each n).course.opening ≡ moment
-  new_opening n e = ap (λ (r : Request). r.course.opening) (put_here a.each a.count (new_request moment command) n e)
+  new_opening n e = ap (λ (r : Request). r.course.opening) (put_here a.each a.count (request_with moment ask) n e)
 
   frees : (has_id_before keep pace a moment ≡ false) × (has_many_before pace a moment ≡ false)
   frees = or_parts (has_id_before keep pace a moment) (has_many_before pace a moment) free
@@ -158,11 +158,11 @@ module _ (own device : ℕ) (timing : Timing) (pace : Pace) where
     early = λ n l. absurd (omega arith);
     spread = λ some n l. absurd (omega arith);
   }
-  apart_at (Open moment command ∷ calls) i = go (accepts timing.keep pace (requests own device timing pace calls) moment) refl (apart_at calls i.1)
+  apart_at (OpenRequest moment ask ∷ calls) i = go (accepts timing.keep pace (requests own device timing pace calls) moment) refl (apart_at calls i.1)
     where
       go : (b : Bool) → accepts timing.keep pace (requests own device timing pace calls) moment ≡ b → Apart timing.keep pace (requests own device timing pace calls) (last_moment own device timing pace calls)
-          → Apart timing.keep pace (cond b (opened (requests own device timing pace calls) moment command) (requests own device timing pace calls)) (cond b moment (last_moment own device timing pace calls))
-      go true ok f = apart_opened timing.keep pace (requests own device timing pace calls) (last_moment own device timing pace calls) moment command f i.0 (accepted_id timing.keep pace (requests own device timing pace calls) moment ok)
+          → Apart timing.keep pace (cond b (opened_for (requests own device timing pace calls) moment ask) (requests own device timing pace calls)) (cond b moment (last_moment own device timing pace calls))
+      go true ok f = apart_opened timing.keep pace (requests own device timing pace calls) (last_moment own device timing pace calls) moment ask f i.0 (accepted_id timing.keep pace (requests own device timing pace calls) moment ok)
       go false ok f = f
   apart_at (Tick moment ∷ calls) i =
       let a = requests own device timing pace calls in

@@ -213,6 +213,6 @@ sleep_misses_nothing own device timing pace held calls deadline moment left at b
     let given = sym back.1 ∙ idle.given_up in (
       again,
       given,
-      λ n. ap (λ (c : Course). record { command = (all own device timing pace calls moment n).command; course = c; fed = (all own device timing pace calls moment n).fed }) (course_stays own device timing pace calls moment again given n),
+      λ n. ap (λ (c : Course). record { ask = (all own device timing pace calls moment n).ask; course = c; fed = (all own device timing pace calls moment n).fed }) (course_stays own device timing pace calls moment again given n),
       deadline_stays held deadline moment idle at,
     )

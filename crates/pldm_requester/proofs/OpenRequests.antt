@@ -4,9 +4,9 @@ use Rattle.std.specs.Prelude.{◌&&◌, ◌==◌, not, nat_le}
 use Rattle.std.proofs.lemmas.Bool.{and_left, and_parts, and_cases, not-true, cases_lt, cases_eq, cond-true, cond-false, cond_both, leb-false, ne_eqb}
 use Rattle.mctp_packet.specs.Packets.{Packet}
 use Rattle.mctp_packet.specs.declared.reason.Reason.{Reason}
-use Rattle.pldm_wire.specs.declared.command.Command.{Command}
+use Rattle.pldm_requester.specs.Asks.{Ask}
 use Rattle.pldm_requester.specs.Arrivals.{Arrival, Drop, Part, Answer, passed_arrival}
-use Rattle.pldm_requester.specs.Calls.{Call, Open, Tick, Receive, Request, Requests, none_yet, new_request, put, opened, is_open_at, is_tag_in_use, is_id_in_use, accepts, goes_to, passed, gives, is_mine, fed_to, fed_by, answered_by, received, after_call, requests}
+use Rattle.pldm_requester.specs.Calls.{Call, OpenRequest, Tick, Receive, Request, Requests, none_yet, request_with, put, opened_for, is_open_at, is_tag_in_use, is_id_in_use, accepts, goes_to, passed, gives, is_mine, fed_to, fed_by, answered_by, received, after_call, requests}
 use Rattle.pldm_requester.specs.Courses.{Course, Progress, Waiting, Answered, GaveUp, is_open, is_waiting, is_answered, has_answer, is_over, is_given_up, is_sent_again, given_up, sent_again, ticked}
 use Rattle.pldm_requester.specs.Laws.{OpenAreRecent, OpenAreOpened, OneOnEachTag}
 use Rattle.pldm_requester.specs.declared.pace.Pace.{Pace}
@@ -60,9 +60,9 @@ module _ (own device : ℕ) (timing : Timing) (a : Requests) where
   fed_course p None k = refl
   fed_course p (Some n) k = put_keeps (λ (r : Request). r.course) a.each n _ k refl
 
-  pub fed_command : (p : Packet) (o : Option ℕ) (k : ℕ) → ((fed_to own device timing a p o).each k).command ≡ (a.each k).command
-  fed_command p None k = refl
-  fed_command p (Some n) k = put_keeps (λ (r : Request). r.command) a.each n _ k refl
+  pub fed_ask : (p : Packet) (o : Option ℕ) (k : ℕ) → ((fed_to own device timing a p o).each k).ask ≡ (a.each k).ask
+  fed_ask p None k = refl
+  fed_ask p (Some n) k = put_keeps (λ (r : Request). r.ask) a.each n _ k refl
 
   pub fed_count : (p : Packet) (o : Option ℕ) → (fed_to own device timing a p o).count ≡ a.count
   fed_count p None = refl
@@ -72,9 +72,9 @@ module _ (own device : ℕ) (timing : Timing) (a : Requests) where
   came_course (Ok p) k = fed_course p (goes_to own device timing a p) k
   came_course (Err reason) k = refl
 
-  pub came_command : (read : Result Packet Reason) (k : ℕ) → ((fed_by own device timing a read).each k).command ≡ (a.each k).command
-  came_command (Ok p) k = fed_command p (goes_to own device timing a p) k
-  came_command (Err reason) k = refl
+  pub came_ask : (read : Result Packet Reason) (k : ℕ) → ((fed_by own device timing a read).each k).ask ≡ (a.each k).ask
+  came_ask (Ok p) k = fed_ask p (goes_to own device timing a p) k
+  came_ask (Err reason) k = refl
 
   pub came_count : (read : Result Packet Reason) → (fed_by own device timing a read).count ≡ a.count
   came_count (Ok p) = fed_count p (goes_to own device timing a p)
@@ -159,15 +159,15 @@ tag_free a free n e =
     (λ (x : is_open_at a (a.count - 8) ≡ false). let i : a.count - 8 ≡ n = omega arith in subst (λ (k : ℕ). is_open_at a k ≡ false) i x)
     (and_cases (nat_le 8 a.count) _ free)
 
-pub recent_opened : (a : Requests) (moment : ℕ) (command : Command) → Recent a → is_tag_in_use a ≡ false → Recent (opened a moment command)
-recent_opened a moment command f free = record {
+pub recent_opened : (a : Requests) (moment : ℕ) (ask : Ask) → Recent a → is_tag_in_use a ≡ false → Recent (opened_for a moment ask)
+recent_opened a moment ask f free = record {
   closed = λ n l.
       let other : n ≡ a.count → ⊥ = λ e. omega arith in
-      ap (λ (r : Request). is_open r.course) (put_other a.each a.count (new_request moment command) n other)
+      ap (λ (r : Request). is_open r.course) (put_other a.each a.count (request_with moment ask) n other)
       ∙ ⊎_elim (λ (e : n + 8 ≡ a.count). tag_free a free n e) (λ (e : n + 8 ≡ a.count → ⊥). f.closed n (omega arith)) (cases_eq (n + 8) a.count);
   unopened = λ n l.
       let other : n ≡ a.count → ⊥ = λ e. omega arith in
-      ap (λ (r : Request). is_open r.course) (put_other a.each a.count (new_request moment command) n other) ∙ f.unopened n (omega arith);
+      ap (λ (r : Request). is_open r.course) (put_other a.each a.count (request_with moment ask) n other) ∙ f.unopened n (omega arith);
 }
 
 recent_same : (a b : Requests) → Recent a → b.count ≡ a.count → ((n : ℕ) → is_open_at a n ≡ false → is_open_at b n ≡ false) → Recent b
@@ -186,8 +186,8 @@ accepted_id keep pace a moment ok =
 
 module _ (own device : ℕ) (timing : Timing) (pace : Pace) where
   recent_after : (a : Requests) (call : Call) → Recent a → Recent (after_call own device timing pace a call)
-  recent_after a (Open moment command) f =
-      cond_both (accepts timing.keep pace a moment) (opened a moment command) a Recent (λ ok. recent_opened a moment command f (accepted_tag timing.keep pace a moment ok)) (λ _. f)
+  recent_after a (OpenRequest moment ask) f =
+      cond_both (accepts timing.keep pace a moment) (opened_for a moment ask) a Recent (λ ok. recent_opened a moment ask f (accepted_tag timing.keep pace a moment ok)) (λ _. f)
   recent_after a (Tick moment) f =
       recent_same a (after_call own device timing pace a (Tick moment)) f refl (λ n shut. ap is_open (shut_stays timing moment (a.each n).course shut) ∙ shut)
   recent_after a (Receive moment bytes) f =

@@ -5,13 +5,13 @@ use Rattle.std.specs.List.{All}
 use Rattle.std.proofs.lemmas.Bool.{and_cases, cases_eq, cond-true, cond-false, leb-false, ltb-true, ltb-false, ne_eqb}
 use Rattle.std.proofs.lemmas.List.Elements.{All-cons, All-weaker}
 use Rattle.std.proofs.lemmas.Option.{slice_get_within}
-use Rattle.pldm_wire.specs.declared.command.Command.{Command}
+use Rattle.pldm_requester.specs.Asks.{Ask}
 use Rattle.pldm_requester.specs.Arrivals.{Arrival, Drop, Part, Answer}
-use Rattle.pldm_requester.specs.Calls.{Call, Open, Tick, Receive}
+use Rattle.pldm_requester.specs.Calls.{Call, OpenRequest, Tick, Receive}
 use Rattle.pldm_requester.specs.Courses.{Course, answered, ticked}
 use Rattle.pldm_requester.specs.Pacing.{is_too_soon}
 use Rattle.pldm_requester.specs.Numbering.{id_of}
-use Rattle.pldm_requester.specs.Steps.{Memo, RequesterState, accepts, arrived_by, courses_since, is_id_in_use, is_recent, new_memo, opened_held, passed, passes, received_held, remembered_after, ticked_held, with_course}
+use Rattle.pldm_requester.specs.Steps.{Memo, RequesterState, accepts, arrived_by, courses_since, is_id_in_use, is_recent, memo_with, opened_with, passed, passes, received_held, remembered_after, ticked_held, with_course}
 use Rattle.pldm_requester.specs.Resuming.{AreKnown, AreLeft, count_after, resumed_held, shut_memo}
 use Rattle.pldm_requester.specs.Processes.{AreApart, IdsApartOverProcesses, IsLongBefore, Knows, Opening, PassedOn, after, opened_by}
 use Rattle.pldm_requester.specs.declared.openings.Openings.{Openings}
@@ -99,20 +99,20 @@ recent_by true r new o m e = inl refl
 recent_by false true new o m e = inr refl
 recent_by false false new o m e = cc
 
-module _ (pace : Pace) (held : RequesterState) (moment : ℕ) (command : Command) (opened : List Opening) (p : IsPassedOn pace held opened) (ok : accepts held moment ≡ true) where
+module _ (pace : Pace) (held : RequesterState) (moment : ℕ) (ask : Ask) (opened : List Opening) (p : IsPassedOn pace held opened) (ok : accepts held moment ≡ true) where
   abbrev new_one : Opening
   new_one = record { id = id_of held.count; moment = moment }
 
   is_free : is_id_in_use held moment ≡ false
   is_free = accepted_free _ _ ok
 
-  kept : (n : ℕ) → (n ≡ held.count → ⊥) → is_recent (held.count + 1) n ≡ true → opening_in ((opened_held held moment command).remembered n) ≡ opening_in (held.remembered n)
+  kept : (n : ℕ) → (n ≡ held.count → ⊥) → is_recent (held.count + 1) n ≡ true → opening_in ((opened_with held moment ask).remembered n) ≡ opening_in (held.remembered n)
   kept n other r = ap opening_in (cond-false (n == held.count) _ _ (ne_eqb n held.count other) ∙ cond-true (is_recent (held.count + 1) n) _ _ r)
 
-  here : (n : ℕ) → n ≡ held.count → opening_in ((opened_held held moment command).remembered n) ≡ Some moment
+  here : (n : ℕ) → n ≡ held.count → opening_in ((opened_with held moment ask).remembered n) ≡ Some moment
   here n e = ap opening_in (cond-true (n == held.count) _ _ (eq-eqb n held.count e))
 
-  each : (o : Opening) → Remembers held o → Remembers (opened_held held moment command) o
+  each : (o : Opening) → Remembers held o → Remembers (opened_with held moment ask) o
   each o k = ⊎_elim
       (λ (e : k.0 + 32 ≡ held.count).
       let m = free held moment k.0 k.1 is_free e k.3 in
@@ -124,17 +124,17 @@ module _ (pace : Pace) (held : RequesterState) (moment : ℕ) (command : Command
       (k.0, k.1, k.2, kept k.0 (λ s. omega (arith, parts.0, s)) r ∙ k.3, k.4))
       (cases_eq (k.0 + 32) held.count)
 
-  opened_passes : IsPassedOn pace (opened_held held moment command) (new_one ∷ opened)
+  opened_passes : IsPassedOn pace (opened_with held moment ask) (new_one ∷ opened)
   opened_passes = record {
     paces = p.paces;
     recent = λ n m e.
         ⊎_elim
         (λ (b : (n == held.count) ≡ true). let s = eqb-true n held.count b in recent_from (held.count + 1) n (omega (arith, s)) (omega (arith, s)))
         (λ (r : is_recent (held.count + 1) n ≡ true). r)
-        (recent_by (n == held.count) (is_recent (held.count + 1) n) (new_memo held moment command) (held.remembered n) m e);
-    known = All-cons (Remembers (opened_held held moment command)) new_one opened
+        (recent_by (n == held.count) (is_recent (held.count + 1) n) (memo_with held moment ask) (held.remembered n) m e);
+    known = All-cons (Remembers (opened_with held moment ask)) new_one opened
         (held.count, moment, refl, here held.count refl, omega arith)
-        (All-weaker (Remembers held) (Remembers (opened_held held moment command)) each opened p.known);
+        (All-weaker (Remembers held) (Remembers (opened_with held moment ask)) each opened p.known);
   }
 
   apart : All (IsLongBefore held.pace.lifetime new_one) opened
@@ -195,20 +195,20 @@ start_passes own device timing pace now known earlier are all = record {
 
 -- ---- all calls
 module _ (pace : Pace) (start : RequesterState) (earlier : List Opening) (first : IsPassedOn pace start earlier) where
-  passes_open : (b : Bool) (held : RequesterState) (opened : List Opening) (moment : ℕ) (command : Command) → accepts held moment ≡ b → IsPassedOn pace held (opened ++ earlier) → AreApart pace.lifetime opened earlier
-      → IsPassedOn pace (cond b (opened_held held moment command) held) ((cond b (record { id = id_of held.count; moment = moment } ∷ []) [] ++ opened) ++ earlier)
+  passes_open : (b : Bool) (held : RequesterState) (opened : List Opening) (moment : ℕ) (ask : Ask) → accepts held moment ≡ b → IsPassedOn pace held (opened ++ earlier) → AreApart pace.lifetime opened earlier
+      → IsPassedOn pace (cond b (opened_with held moment ask) held) ((cond b (record { id = id_of held.count; moment = moment } ∷ []) [] ++ opened) ++ earlier)
       × AreApart pace.lifetime (cond b (record { id = id_of held.count; moment = moment } ∷ []) [] ++ opened) earlier
-  passes_open true held opened moment command ok p a = (
-    opened_passes pace held moment command (opened ++ earlier) p ok,
-    (subst (λ (t : Pace). All (IsLongBefore t.lifetime (record { id = id_of held.count; moment = moment })) (opened ++ earlier)) p.paces (apart pace held moment command (opened ++ earlier) p ok), a),
+  passes_open true held opened moment ask ok p a = (
+    opened_passes pace held moment ask (opened ++ earlier) p ok,
+    (subst (λ (t : Pace). All (IsLongBefore t.lifetime (record { id = id_of held.count; moment = moment })) (opened ++ earlier)) p.paces (apart pace held moment ask (opened ++ earlier) p ok), a),
   )
-  passes_open false held opened moment command ok p a = (p, a)
+  passes_open false held opened moment ask ok p a = (p, a)
 
   all_calls : (calls : List Call) → IsPassedOn pace (after start calls) (opened_by start calls ++ earlier) × AreApart pace.lifetime (opened_by start calls) earlier
   all_calls [] = (first, tt)
-  all_calls (Open moment command ∷ calls) =
+  all_calls (OpenRequest moment ask ∷ calls) =
       let before = all_calls calls in
-      passes_open (accepts (after start calls) moment) (after start calls) (opened_by start calls) moment command refl before.0 before.1
+      passes_open (accepts (after start calls) moment) (after start calls) (opened_by start calls) moment ask refl before.0 before.1
   all_calls (Tick moment ∷ calls) =
       let before = all_calls calls in (
         same pace (after start calls) (ticked_held (after start calls) moment) (opened_by start calls ++ earlier) refl refl

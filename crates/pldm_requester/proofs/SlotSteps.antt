@@ -11,14 +11,13 @@ use Rattle.mctp_packet.specs.declared.reason.Reason.{Reason}
 use Rattle.mctp_packet.specs.declared.reason.Reason.TheVariants.{NotMine, NotReady}
 use Rattle.mctp_packet.specs.Pieces.{written_packets}
 use Rattle.mctp_assembly.specs.Steps as assembly
-use Rattle.pldm_wire.specs.Commands.{kind_of, command_message}
 use Rattle.pldm_wire.specs.Responses.{Response, response_of}
-use Rattle.pldm_wire.specs.declared.command.Command.{Command}
+use Rattle.pldm_requester.specs.Asks.{Ask, ask_message}
 use Rattle.pldm_requester.specs.Arrivals.{Drop, Answer, response_arrival}
 use Rattle.pldm_requester.specs.Calls.{answer_key}
 use Rattle.pldm_requester.specs.Courses.{begun, is_open, answered}
 use Rattle.pldm_requester.specs.Numbering.{id_of, tag_of}
-use Rattle.pldm_requester.specs.Steps.{Memo, IsHeld, is_recent, passes, is_open_in, is_tag_in_use, is_mine, is_mine_by, with_course, remembered_after, opened_held, new_memo}
+use Rattle.pldm_requester.specs.Steps.{Memo, IsHeld, is_recent, passes, is_open_in, is_tag_in_use, is_mine, is_mine_by, with_course, remembered_after, opened_with, memo_with}
 use Rattle.pldm_requester.specs.Slots.{RequesterView, held_of, remembered_in, put_slot, AreSlots, IsPaced, IsStation, most_opened}
 use Rattle.pldm_requester.proofs.SlotLists.{remembered_parts, remembered_in-set, remembered_in-put, AreSlots-put}
 
@@ -107,24 +106,24 @@ opened_station station now memo open_messages is at few free = record {
   shut = λ n old. shut_opened station n memo is free old;
 }
 
-pub opened_is_held : (station : RequesterView) (now : ℕ) (command : Command) (slots : List Memo) (open_messages : assembly.OpenMessages) → AreSlots station.count station.slots
-    → slots ≡ put_slot station.count station.slots (new_memo (held_of station) now command)
+pub opened_is_held : (station : RequesterView) (now : ℕ) (ask : Ask) (slots : List Memo) (open_messages : assembly.OpenMessages) → AreSlots station.count station.slots
+    → slots ≡ put_slot station.count station.slots (memo_with (held_of station) now ask)
     → open_messages ≡ map.remove station.open_messages (answer_key station.device (tag_of station.count))
-    → IsHeld (held_of (record station { count = station.count + 1; slots = slots; open_messages = open_messages; last = now })) (opened_held (held_of station) now command)
-opened_is_held station now command slots open_messages are put forgot = record {
+    → IsHeld (held_of (record station { count = station.count + 1; slots = slots; open_messages = open_messages; last = now })) (opened_with (held_of station) now ask)
+opened_is_held station now ask slots open_messages are put forgot = record {
   own = refl;
   device = refl;
   timing = refl;
   pace = refl;
   count = refl;
-  remembered = λ n. ap (λ xs. remembered_in (station.count + 1) xs n) put ∙ remembered_in-put station.count n station.slots (new_memo (held_of station) now command) are;
+  remembered = λ n. ap (λ xs. remembered_in (station.count + 1) xs n) put ∙ remembered_in-put station.count n station.slots (memo_with (held_of station) now ask) are;
   open_messages = forgot;
   last = refl;
 }
 
-pub memo_is : (station : RequesterView) (now : ℕ) (command : Command) (tag : ℕ) → tag ≡ tag_of station.count
-    → (let memo : Memo = record { kind = kind_of command; packets = written_packets (record { destination = station.device; source = station.own; owner = true; tag = tag }) (command_message (id_of station.count) command); course = begun now } in memo ≡ new_memo (held_of station) now command)
-memo_is station now command tag e = λ i. record { kind = kind_of command; packets = written_packets (record { destination = station.device; source = station.own; owner = true; tag = e i }) (command_message (id_of station.count) command); course = begun now }
+pub memo_is : (station : RequesterView) (now : ℕ) (ask : Ask) (tag : ℕ) → tag ≡ tag_of station.count
+    → (let memo : Memo = record { kind = ask.kind; packets = written_packets (record { destination = station.device; source = station.own; owner = true; tag = tag }) (ask_message (id_of station.count) ask); course = begun now } in memo ≡ memo_with (held_of station) now ask)
+memo_is station now ask tag e = λ i. record { kind = ask.kind; packets = written_packets (record { destination = station.device; source = station.own; owner = true; tag = e i }) (ask_message (id_of station.count) ask); course = begun now }
 
 -- ---- the numbers that pass a test
 pub filter_more : (test : ℕ → Bool) (a n j : ℕ) → a + n ≡ j → filter test (range_with_len a (n + 1)) ≡ filter test (range_with_len a n) ++ cond (test j) (j ∷ []) []

@@ -11,6 +11,7 @@ use Rattle.pldm_wire.specs.declared.command.Command.TheVariants.{GetTid}
 use Rattle.pldm_requester.specs.Calls.{Call, Open, Tick, Receive, Requests, is_tag_in_use, is_id_in_use, is_open_at, open_answer, open_on, requests, open_expected, again_expected, given_up_expected, got_expected}
 use Rattle.pldm_requester.specs.Courses.{Answered, GaveUp}
 use Rattle.pldm_requester.specs.Laws.{IsLeftBy, IsInOrder}
+use Rattle.pldm_requester.specs.Asks.{ask_of}
 use Rattle.pldm_requester.specs.Numbering.{packets_of}
 use Rattle.pldm_requester.specs.Pacing.{at_default, pace_fault, stride}
 use Rattle.pldm_requester.specs.Slots.{AreSlots}
@@ -66,7 +67,7 @@ eight_open = refl
 abbrev all_answered : Requests
 all_answered = record {
   count = 32;
-  each = λ n. record { command = GetTid; course = record { opening = 0; last_sent = 0; progress = Answered [] }; fed = [] };
+  each = λ n. record { ask = ask_of GetTid; course = record { opening = 0; last_sent = 0; progress = Answered [] }; fed = [] };
 }
 
 before_twice_the_keeping_time : open_answer (is_tag_in_use all_answered) (is_id_in_use 1000 pace all_answered 1999) 32 ≡ Err IdInUse
@@ -80,7 +81,7 @@ abbrev answered_since : ℕ → ℕ → Requests
 answered_since opening answered = record {
   count = 32;
   each = λ n. record {
-    command = GetTid;
+    ask = ask_of GetTid;
     course = record {
       opening = if n == 0 then 0 else opening;
       last_sent = 0;

@@ -10,11 +10,11 @@ use Rattle.mctp_assembly.specs.Histories as assembly
 use Rattle.mctp_assembly.specs.Rows.{next}
 use Rattle.mctp_assembly.specs.declared.fed.Fed.{Fed}
 use Rattle.mctp_assembly.specs.declared.key.Key.{Key}
-use Rattle.pldm_wire.specs.Commands.{kind_of}
 use Rattle.pldm_wire.specs.Responses.{Response}
 use Rattle.pldm_wire.specs.declared.assigned.TheConstants.{INSTANCE_IDS}
 use Rattle.pldm_wire.specs.declared.command.Command.{Command}
 use Rattle.pldm_wire.specs.declared.command.Command.TheVariants.{GetTid}
+use Rattle.pldm_requester.specs.Asks.{Ask, ask_of}
 use Rattle.pldm_requester.specs.Numbering.{tag_of, opened_as}
 use Rattle.pldm_requester.specs.Courses.{Course, no_course, is_open, begun, is_given_up, is_sent_again, ticked, answered}
 use Rattle.pldm_requester.specs.Pacing.{newest, is_too_soon, stride, is_crowded}
@@ -26,15 +26,19 @@ use Rattle.pldm_requester.specs.declared.results.OpenFault.TheVariants.{TagInUse
 use Rattle.pldm_requester.specs.declared.pace.Pace.{Pace}
 use Rattle.pldm_requester.specs.declared.timing.Timing.{Timing}
 
--- each with its moment: a command to be opened as a request, a tick, and bytes that were received
+-- each with its moment: what is to be opened as a request, a tick, and bytes that were received
 pub data Call : Type 0 where
-  Open : (moment : ℕ) → (command : Command) → Call
+  OpenRequest : (moment : ℕ) → (ask : Ask) → Call
   Tick : (moment : ℕ) → Call
   Receive : (moment : ℕ) → (bytes : List ℕ) → Call
 
+-- a command to be opened as a request
+abbrev pub Open : ℕ → Command → Call
+Open moment command = OpenRequest moment (ask_of command)
+
 -- an accepted open, its course, and the packets that came to it since, the newest first
 pub record Request : Type 0 where
-  pub command : Command
+  pub ask : Ask
   pub course : Course
   pub fed : List Packet
 
@@ -45,20 +49,26 @@ pub record Requests : Type 0 where
 
 -- what stands at a number that is not given yet
 abbrev pub no_request : Request
-no_request = record { command = GetTid; course = no_course; fed = [] }
+no_request = record { ask = ask_of GetTid; course = no_course; fed = [] }
 
 abbrev pub none_yet : Requests
 none_yet = record { count = 0; each = λ n. no_request }
 
+abbrev pub request_with : ℕ → Ask → Request
+request_with moment ask = record { ask = ask; course = begun moment; fed = [] }
+
 abbrev pub new_request : ℕ → Command → Request
-new_request moment command = record { command = command; course = begun moment; fed = [] }
+new_request moment command = request_with moment (ask_of command)
 
 -- another request in the place of the one with this number
 abbrev pub put : (ℕ → Request) → ℕ → Request → ℕ → Request
 put each number request n = if n == number then request else each n
 
+abbrev pub opened_for : Requests → ℕ → Ask → Requests
+opened_for a moment ask = record { count = suc a.count; each = put a.each a.count (request_with moment ask) }
+
 abbrev pub opened : Requests → ℕ → Command → Requests
-opened a moment command = record { count = suc a.count; each = put a.each a.count (new_request moment command) }
+opened a moment command = opened_for a moment (ask_of command)
 
 abbrev pub with_request : Requests → ℕ → Request → Requests
 with_request a number request = record { count = a.count; each = put a.each number request }
@@ -128,7 +138,7 @@ module _ (own device : ℕ) (timing : Timing) where
   gives a n p = next (a.each n).fed p
 
   abbrev pub is_mine : Requests → ℕ → Response → Bool
-  is_mine a n response = is_response_to n (kind_of (a.each n).command) response
+  is_mine a n response = is_response_to n (a.each n).ask.kind response
 
   -- what bytes bring
   abbrev pub arrived : Requests → List ℕ → Arrival
@@ -138,7 +148,7 @@ module _ (own device : ℕ) (timing : Timing) where
   abbrev pub fed_to : Requests → Packet → Option ℕ → Requests
   fed_to a p None = a
   fed_to a p (Some n) =
-      with_request a n (record { command = (a.each n).command; course = (a.each n).course; fed = p ∷ (a.each n).fed })
+      with_request a n (record { ask = (a.each n).ask; course = (a.each n).course; fed = p ∷ (a.each n).fed })
 
   abbrev pub fed_by : Requests → Result Packet Reason → Requests
   fed_by a (Err reason) = a
@@ -149,14 +159,14 @@ module _ (own device : ℕ) (timing : Timing) where
   answered_by a Part = a
   answered_by a (Answer n message) =
       with_request a n
-      (record { command = (a.each n).command; course = answered message (a.each n).course; fed = (a.each n).fed })
+      (record { ask = (a.each n).ask; course = answered message (a.each n).course; fed = (a.each n).fed })
 
   abbrev pub received : Requests → List ℕ → Requests
   received a bytes = answered_by (fed_by a (passed a bytes)) (arrived a bytes)
 
   abbrev pub ticked_request : ℕ → Request → Request
   ticked_request moment request =
-      record { command = request.command; course = ticked timing moment request.course; fed = request.fed }
+      record { ask = request.ask; course = ticked timing moment request.course; fed = request.fed }
 
   -- a packet that passed the checks comes to assembly
   abbrev pub with_packet : Result Packet Reason → List assembly.Call → List assembly.Call
@@ -165,7 +175,7 @@ module _ (own device : ℕ) (timing : Timing) where
 
 module _ (own device : ℕ) (timing : Timing) (pace : Pace) where
   abbrev pub after_call : Requests → Call → Requests
-  after_call a (Open moment command) = if accepts timing.keep pace a moment then opened a moment command else a
+  after_call a (OpenRequest moment ask) = if accepts timing.keep pace a moment then opened_for a moment ask else a
   after_call a (Tick moment) =
       record { count = a.count; each = λ n. ticked_request own device timing moment (a.each n) }
   after_call a (Receive moment bytes) = received own device timing a bytes
@@ -178,7 +188,7 @@ module _ (own device : ℕ) (timing : Timing) (pace : Pace) where
   -- the moment of the last call, but for a refused open; 0 where there was none
   abbrev pub last_moment : List Call → ℕ
   last_moment [] = 0
-  last_moment (Open moment command ∷ calls) =
+  last_moment (OpenRequest moment ask ∷ calls) =
       if accepts timing.keep pace (requests calls) moment then moment else last_moment calls
   last_moment (Tick moment ∷ calls) = moment
   last_moment (Receive moment bytes ∷ calls) = moment
@@ -186,7 +196,7 @@ module _ (own device : ℕ) (timing : Timing) (pace : Pace) where
   -- what came to assembly: the packets that passed, and at each accepted open its tag is forgotten
   abbrev pub assembled : List Call → List assembly.Call
   assembled [] = []
-  assembled (Open moment command ∷ calls) =
+  assembled (OpenRequest moment ask ∷ calls) =
       if accepts timing.keep pace (requests calls) moment
       then assembly.forget (answer_key device (tag_of (requests calls).count)) ∷ assembled calls
       else assembled calls

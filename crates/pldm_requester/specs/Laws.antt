@@ -1,15 +1,14 @@
 -- What a requester holds after any list of calls, read by looking back over the list, and which requests are open.
 use Rattle.std.specs.Prelude.{◌≡◌, ◌⊎◌, ℕ, ◌+◌, ◌-◌, ◌*◌, ◌<◌, ◌≤◌, ◌&&◌, nat_lt, nat_le, true, false, List, [], ◌∷◌, length, Option, Some, None, if◌then◌else◌}
 use Rattle.mctp_assembly.specs.Histories as assembly
-use Rattle.pldm_wire.specs.Commands.{kind_of}
 use Rattle.pldm_wire.specs.declared.assigned.TheConstants.{INSTANCE_IDS}
-use Rattle.pldm_wire.specs.declared.command.Command.{Command}
-use Rattle.pldm_requester.specs.Numbering.{id_of, tag_of, packets_of}
+use Rattle.pldm_requester.specs.Asks.{Ask}
+use Rattle.pldm_requester.specs.Numbering.{id_of, tag_of, packets_with}
 use Rattle.pldm_requester.specs.Courses.{is_open}
 use Rattle.pldm_requester.specs.Pacing.{at_default, newest, answered_after, stride}
-use Rattle.pldm_requester.specs.Calls.{Call, Open, Tick, Receive, Requests, accepts, answer_key, course_at, is_id_in_use, is_open_at, open_on, numbers_of, requests, last_moment, assembled, open_expected, again_expected, given_up_expected, got_expected}
+use Rattle.pldm_requester.specs.Calls.{Call, OpenRequest, Tick, Receive, Requests, accepts, answer_key, course_at, is_id_in_use, is_open_at, open_on, numbers_of, requests, last_moment, assembled, open_expected, again_expected, given_up_expected, got_expected}
 use Rattle.pldm_requester.specs.Steps as steps
-use Rattle.pldm_requester.specs.Steps.{Memo, RequesterState, IsHeld, paced_at_first, is_recent, opening_answer, opened_held, again_at, given_up_at, ticked_held, got_at, received_held}
+use Rattle.pldm_requester.specs.Steps.{Memo, RequesterState, IsHeld, paced_at_first, is_recent, opening_answer, opened_with, again_at, given_up_at, ticked_held, got_at, received_held}
 use Rattle.pldm_requester.specs.declared.pace.Pace.{Pace}
 use Rattle.pldm_requester.specs.declared.timing.Timing.{Timing}
 use Rattle.pldm_requester.specs.declared.requester.TheConstants.{MAX_OPEN}
@@ -17,8 +16,8 @@ use Rattle.pldm_requester.specs.declared.requester.TheConstants.{MAX_OPEN}
 -- what is remembered of a request: of the last ones all, of older ones nothing
 abbrev pub memo_of : ℕ → ℕ → Requests → ℕ → Memo
 memo_of own device a number = record {
-  kind = kind_of (a.each number).command;
-  packets = packets_of own device number (a.each number).command;
+  kind = (a.each number).ask.kind;
+  packets = packets_with own device number (a.each number).ask;
   course = (a.each number).course;
 }
 
@@ -40,13 +39,13 @@ pub record IsLeftBy (own device : ℕ) (timing : Timing) (pace : Pace) (held : R
 -- longer list leaves
 abbrev pub OpenLooksBack : Type 0
 OpenLooksBack =
-    (own device : ℕ) (timing : Timing) (pace : Pace) (held : RequesterState) (calls : List Call) (moment : ℕ) (command : Command)
+    (own device : ℕ) (timing : Timing) (pace : Pace) (held : RequesterState) (calls : List Call) (moment : ℕ) (ask : Ask)
     → IsLeftBy own device timing pace held calls
     → (opening_answer held moment ≡ open_expected own device timing pace calls moment)
     × (steps.accepts held moment ≡ accepts timing.keep pace (requests own device timing pace calls) moment)
     × (steps.accepts held moment ≡ true
-    → IsLeftBy own device timing pace (opened_held held moment command) (Open moment command ∷ calls))
-    × (steps.accepts held moment ≡ false → IsLeftBy own device timing pace held (Open moment command ∷ calls))
+    → IsLeftBy own device timing pace (opened_with held moment ask) (OpenRequest moment ask ∷ calls))
+    × (steps.accepts held moment ≡ false → IsLeftBy own device timing pace held (OpenRequest moment ask ∷ calls))
 
 -- so does a tick
 abbrev pub TickLooksBack : Type 0
@@ -127,15 +126,15 @@ FedSinceItsOpening =
 -- an accepted open begins with no packets on its tag
 abbrev pub BeginsWithNone : Type 0
 BeginsWithNone =
-    (own device : ℕ) (timing : Timing) (pace : Pace) (calls : List Call) (moment : ℕ) (command : Command)
+    (own device : ℕ) (timing : Timing) (pace : Pace) (calls : List Call) (moment : ℕ) (ask : Ask)
     → accepts timing.keep pace (requests own device timing pace calls) moment ≡ true
     → assembly.since (answer_key device (tag_of (requests own device timing pace calls).count))
-    (assembled own device timing pace (Open moment command ∷ calls))
+    (assembled own device timing pace (OpenRequest moment ask ∷ calls))
     ≡ []
 
 -- ---- moments, which never go back
 abbrev pub moment_of : Call → ℕ
-moment_of (Open moment command) = moment
+moment_of (OpenRequest moment ask) = moment
 moment_of (Tick moment) = moment
 moment_of (Receive moment bytes) = moment
 

@@ -1,3 +1,5 @@
+pub mod Asks
+pub mod AskRefs
 pub mod Numbering
 pub mod Timings
 pub mod OpenFaults

@@ -1,9 +1,9 @@
 -- Which instance IDs may be used again, over the requesters of several processes that give on what they opened.
 use Rattle.std.specs.Prelude.{◌≡◌, ℕ, ◌+◌, ◌*◌, ◌≤◌, List, [], ◌∷◌, ◌++◌, slice_get, if◌then◌else◌, Some}
 use Rattle.std.specs.List.{All}
-use Rattle.pldm_requester.specs.Calls.{Call, Open, Tick, Receive}
+use Rattle.pldm_requester.specs.Calls.{Call, OpenRequest, Tick, Receive}
 use Rattle.pldm_requester.specs.Numbering.{id_of}
-use Rattle.pldm_requester.specs.Steps.{RequesterState, accepts, opened_held, received_held, ticked_held}
+use Rattle.pldm_requester.specs.Steps.{RequesterState, accepts, opened_with, received_held, ticked_held}
 use Rattle.pldm_requester.specs.Resuming.{AreKnown, AreLeft, resumed_held}
 use Rattle.pldm_requester.specs.declared.openings.Openings.{Openings}
 use Rattle.pldm_requester.specs.declared.pace.Pace.{Pace}
@@ -33,7 +33,7 @@ Knows openings opening =
 
 -- what is held after these calls, the newest first
 abbrev pub after_call : RequesterState → Call → RequesterState
-after_call held (Open moment command) = if accepts held moment then opened_held held moment command else held
+after_call held (OpenRequest moment ask) = if accepts held moment then opened_with held moment ask else held
 after_call held (Tick moment) = ticked_held held moment
 after_call held (Receive moment bytes) = received_held held moment bytes
 
@@ -43,7 +43,7 @@ after start (call ∷ calls) = after_call (after start calls) call
 
 -- what a call opens
 abbrev pub opens : RequesterState → Call → List Opening
-opens held (Open moment command) =
+opens held (OpenRequest moment ask) =
     if accepts held moment then record { id = id_of held.count; moment = moment } ∷ [] else []
 opens held (Tick moment) = []
 opens held (Receive moment bytes) = []

@@ -7,12 +7,12 @@ use Rattle.mctp_packet.specs.Passing.{passing}
 use Rattle.mctp_packet.specs.declared.reason.Reason.{Reason}
 use Rattle.mctp_packet.specs.declared.TheConstants.{TAGS}
 use Rattle.mctp_assembly.specs.Steps as assembly
-use Rattle.pldm_wire.specs.Commands.{kind_of}
 use Rattle.pldm_wire.specs.Kinds.{TypeAndCommand}
 use Rattle.pldm_wire.specs.Responses.{Response}
 use Rattle.pldm_wire.specs.declared.assigned.TheConstants.{INSTANCE_IDS}
 use Rattle.pldm_wire.specs.declared.command.Command.{Command}
-use Rattle.pldm_requester.specs.Numbering.{tag_of, packets_of}
+use Rattle.pldm_requester.specs.Asks.{Ask, ask_of}
+use Rattle.pldm_requester.specs.Numbering.{tag_of, packets_with}
 use Rattle.pldm_requester.specs.Courses.{Course, no_course, is_open, begun, is_given_up, is_sent_again, ticked, answered}
 use Rattle.pldm_requester.specs.Pacing.{at_default, newest, is_too_soon, stride, is_crowded}
 use Rattle.pldm_requester.specs.Arrivals.{Arrival, Drop, Part, Answer, got_of, is_response_to, passed_arrival}
@@ -142,23 +142,29 @@ module _ (held : RequesterState) where
   abbrev pub opening_answer : ℕ → Result Opened OpenFault
   opening_answer moment = open_answer is_tag_in_use (is_id_in_use moment) held.count
 
-  abbrev pub new_memo : ℕ → Command → Memo
-  new_memo moment command = record {
-    kind = kind_of command;
-    packets = packets_of held.own held.device held.count command;
+  abbrev pub memo_with : ℕ → Ask → Memo
+  memo_with moment ask = record {
+    kind = ask.kind;
+    packets = packets_with held.own held.device held.count ask;
     course = begun moment;
   }
 
+  abbrev pub new_memo : ℕ → Command → Memo
+  new_memo moment command = memo_with moment (ask_of command)
+
   -- what is held after an accepted open: of the last requests one more is remembered
-  abbrev pub opened_held : ℕ → Command → RequesterState
-  opened_held moment command = record held {
+  abbrev pub opened_with : ℕ → Ask → RequesterState
+  opened_with moment ask = record held {
     count = held.count + 1;
     remembered = λ number.
-        if number == held.count then Some (new_memo moment command)
+        if number == held.count then Some (memo_with moment ask)
         else (if is_recent (held.count + 1) number then held.remembered number else None);
     open_messages = map.remove held.open_messages (answer_key held.device (tag_of held.count));
     last = moment;
   }
+
+  abbrev pub opened_held : ℕ → Command → RequesterState
+  opened_held moment command = opened_with moment (ask_of command)
 
   -- which requests a tick sends again, and which it gives up
   abbrev pub again_at : ℕ → List ℕ

@@ -3,6 +3,7 @@
 //! request an answer is for (DSP0240, "PLDM message fields").
 #![tactic(auto)]
 
+mod ask;
 pub mod laws;
 mod numbering;
 mod openings;
@@ -11,6 +12,7 @@ mod remembered;
 mod requester;
 mod results;
 mod resuming;
+mod slots;
 mod timing;
 
 pub use openings::{Openings, ResumeFault};

@@ -1,8 +1,9 @@
 //! What a requester remembers of a request: its command, its tries, and its answer.
 
+use crate::ask::AskRef;
 use crate::{Due, MAX_OPEN, Status, Timing};
 use mctp_packet::{Body, MAX_MESSAGE_BYTES, Moment, Packets, Route, split, split_into};
-use pldm_wire::{Command, INSTANCE_IDS, Kind, put_command};
+use pldm_wire::{Command, INSTANCE_IDS, Kind};
 use std::marker::Model;
 
 /// How a request stands.
@@ -59,29 +60,31 @@ impl Remembered {
     ghost use Rattle.std.specs.Prelude.{◌≡◌, ℕ, ◌<◌, ◌≤◌, [], ◌∷◌, ◌++◌, length, if◌then◌else◌};
     ghost use Rattle.arrayvec.specs.ArrayVec.{array_vec_len};
     ghost use Rattle.mctp_packet.specs.Pieces.{written_packets};
-    ghost use Rattle.pldm_wire.specs.Commands.{IsCommand, command_message, kind_of};
+    ghost use Rattle.pldm_wire.specs.Commands.{command_message, kind_of};
+    ghost use Rattle.pldm_requester.specs.Asks.{ask_message};
+    ghost use Rattle.pldm_requester.specs.AskRefs.{HasRoom, IsReadable, ask_in};
     ghost use Rattle.pldm_requester.specs.Courses.{answered, begun, given_up, is_open, is_over, is_given_up, is_sent_again, ticked};
     ghost use Rattle.pldm_requester.specs.Deadlines.{is_due, is_reached};
     ghost use Rattle.pldm_requester.specs.Pacing.{is_answered_from};
     ghost use Rattle.pldm_requester.specs.Steps.{with_course};
     ghost use Rattle.pldm_requester.specs.RequestProgress.{progress_in_status};
 
-    /// A request that is opened now: the command goes with this instance ID on this route.
+    /// A request that is opened now: it asks so, with this instance ID on this route.
     // Its message is put where its answer will be: then there is one room for both.
-    pub(crate) fn new(id: u8, command: &Command, route: &Route, now: Moment) -> Remembered
-        requires { id < INSTANCE_IDS }
+    pub(crate) fn new(id: u8, ask: &AskRef<'_>, route: &Route, now: Moment) -> Remembered
+        requires id { id < INSTANCE_IDS }
+        requires room { HasRoom ask.now }
         ensures memo { result ≡ record {
-          kind = kind_of command.now;
-          packets = written_packets route.now (command_message id command.now);
+          kind = (ask_in ask.now).kind;
+          packets = written_packets route.now (ask_message id (ask_in ask.now));
           course = begun now;
         } }
-        ensures readable { IsCommand command.now }
+        ensures readable { IsReadable ask.now }
     {
-        pldm_wire::laws::messages_fit();
         let mut message = Body::new();
-        put_command(&mut message, id, command);
+        ask.put(&mut message, id);
         Remembered {
-            kind: command.kind(),
+            kind: ask.kind(),
             packets: split(route, &message).unwrap(),
             opening: now,
             last_sent: now,
@@ -100,26 +103,26 @@ impl Remembered {
           course = given_up (begun opening);
         } }
     {
-        let mut request = Remembered::new(id, &Command::GetTid, route, opening);
+        let mut request = Remembered::new(id, &AskRef::Command(&Command::GetTid), route, opening);
         request.progress = Progress::GaveUp;
         request
     }
 
-    /// Another request takes its place: the command goes with this instance ID on this route.
+    /// Another request takes its place: it asks so, with this instance ID on this route.
     // As at first: so no room has to be cleared for its message.
-    pub(crate) fn begin(&mut self, id: u8, command: &Command, route: &Route, now: Moment)
-        requires { id < INSTANCE_IDS }
+    pub(crate) fn begin(&mut self, id: u8, ask: &AskRef<'_>, route: &Route, now: Moment)
+        requires id { id < INSTANCE_IDS }
+        requires room { HasRoom ask.now }
         ensures memo { self.new ≡ record {
-          kind = kind_of command.now;
-          packets = written_packets route.now (command_message id command.now);
+          kind = (ask_in ask.now).kind;
+          packets = written_packets route.now (ask_message id (ask_in ask.now));
           course = begun now;
         } }
-        ensures readable { IsCommand command.now }
+        ensures readable { IsReadable ask.now }
     {
-        pldm_wire::laws::messages_fit();
-        put_command(&mut self.answer, id, command);
+        ask.put(&mut self.answer, id);
         split_into(route, &self.answer, &mut self.packets).unwrap();
-        self.kind = command.kind();
+        self.kind = ask.kind();
         self.opening = now;
         self.last_sent = now;
         self.progress = Progress::Waiting;

@@ -8,28 +8,32 @@ ghost use Rattle.mctp_packet.specs.Ids.{IsMoment, IsTag, IsKeep};
 ghost use Rattle.mctp_packet.specs.Memories.{out_of_memory};
 ghost use Rattle.mctp_packet.specs.Packets.{written};
 ghost use Rattle.mctp_packet.specs.Passing.{passed as where_expected};
-ghost use Rattle.mctp_packet.specs.Pieces.{written_packets};
 ghost use Rattle.mctp_packet.specs.Reading.{reading, unless};
 ghost use Rattle.mctp_assembly.specs.Steps.{answer as assembled};
 ghost use Rattle.mctp_assembly.specs.declared.fed.Fed.TheVariants.{Whole};
-ghost use Rattle.pldm_wire.specs.Commands.{IsCommand, command_message, kind_of};
+ghost use Rattle.pldm_wire.specs.Commands.{IsCommand};
 ghost use Rattle.pldm_wire.specs.Responses.{response_of};
 ghost use Rattle.pldm_wire.specs.declared.assigned.TheConstants.{INSTANCE_IDS};
+ghost use Rattle.pldm_wire.specs.declared.limits.TheConstants.{MAX_REQUEST_DATA};
 ghost use Rattle.pldm_requester.specs.Arrivals.{got_of, is_response_to, response_arrival};
+ghost use Rattle.pldm_requester.specs.Asks.{ask_for};
+ghost use Rattle.pldm_requester.specs.AskRefs.{HasRoom, IsReadable, ask_in};
 ghost use Rattle.pldm_requester.specs.Calls.{answer_key};
 ghost use Rattle.pldm_requester.specs.Courses.{begun, is_given_up, is_sent_again, ticked};
 ghost use Rattle.pldm_requester.specs.Deadlines.{IsDeadline, IsEarliest, is_reached};
 ghost use Rattle.pldm_requester.specs.Numbering.{id_of, tag_of};
 ghost use Rattle.pldm_requester.specs.Pacing.{is_answered_from, is_too_soon, newest, setting_fault};
-ghost use Rattle.pldm_requester.specs.Slots.{AreSlots, IsInPace, OlderAreShut, held_of, most_opened, remembered_in, put_slot};
+ghost use Rattle.pldm_requester.specs.Slots.{AreSlots, IsInPace, OlderAreShut, held_of, most_opened, remembered_in};
 ghost use Rattle.pldm_requester.specs.RequestProgress.{progress_in_status};
-ghost use Rattle.pldm_requester.specs.Steps.{IsHeld, accepts, again_at, arrived_by, begins_message, expects, given_up_at, goes_to, got_at, held_at_first, held_by, is_id_in_use, is_mine, is_open_in, is_tag_in_use, opened_held, opening_answer, passed, passes, received_held, recent_numbers, remembered_after, ticked_held, with_course, course_of, courses_since, has_id_before, has_many_before, paced_at_first};
+ghost use Rattle.pldm_requester.specs.Steps.{IsHeld, accepts, again_at, arrived_by, begins_message, expects, given_up_at, goes_to, got_at, held_at_first, held_by, is_id_in_use, is_mine, is_open_in, is_tag_in_use, opened_held, opened_with, opening_answer, passed, passes, received_held, recent_numbers, remembered_after, ticked_held, with_course, course_of, courses_since, has_id_before, has_many_before, paced_at_first};
 ghost use Rattle.pldm_requester.specs.Resuming.{AreKnown, AreLeft, IsKnown, resumed_held, shut_memo};
 ghost use Rattle.pldm_requester.specs.Timings.{timing_fault};
 
+use crate::ask::AskRef;
 use crate::numbering::{id_of, tag_of};
 use crate::remembered::Remembered;
 use crate::resuming::{moments_of, shut_slots};
+use crate::slots::{make_room, put};
 use crate::{
     Due, Got, OpenFault, Opened, Openings, Pace, ResumeFault, SettingFault, Status, Timing,
     TimingFault,
@@ -368,6 +372,51 @@ impl Requester {
         ensures held { OnOk result (IsHeld (held_of self.new) (opened_held (held_of self.old) now command.now)) }
         ensures err { OnErr result (IsHeld (held_of self.new) (held_of self.old)) }
     {
+        self.open_ask(now, &AskRef::Command(command))
+    }
+
+    /// As [`Requester::open`], for a request of any PLDM type: of this type and command, with this data, which is what
+    /// follows its header (DSP0240, "PLDM message fields"). Data has at most [`MAX_REQUEST_DATA`] bytes.
+    ///
+    /// # Errors
+    ///
+    /// As from [`Requester::open`].
+    ///
+    /// [`MAX_REQUEST_DATA`]: pldm_wire::MAX_REQUEST_DATA
+    pub fn open_request(
+        &mut self,
+        now: Moment,
+        kind: Kind,
+        data: &[u8],
+    ) -> Result<Opened, OpenFault>
+        requires moment { (held_of self.old).last ≤ now }
+        requires few { length data.now ≤ MAX_REQUEST_DATA }
+        ensures answer { IfOk result (λ opened. opening_answer (held_of self.old) now ≡ Ok opened) }
+        ensures fault { IfErr result (λ fault.
+            ((fault ≡ OpenFault.Memory out_of_memory) × (accepts (held_of self.old) now ≡ true))
+            ⊎ (opening_answer (held_of self.old) now ≡ Err fault)) }
+        ensures room { IsErrOf result (OpenFault.Memory out_of_memory) → (held_of self.old).count < MAX_REMEMBERED }
+        ensures held { OnOk result (IsHeld (held_of self.new) (opened_with (held_of self.old) now
+            (ask_for kind data.now))) }
+        ensures err { OnErr result (IsHeld (held_of self.new) (held_of self.old)) }
+    {
+        let _other: Option<&Command> = None; // for the proof: what an `AskRef` may hold too
+        self.open_ask(now, &AskRef::Data(kind, data))
+    }
+
+    /// As [`Requester::open`], for what is asked either way.
+    fn open_ask(&mut self, now: Moment, ask: &AskRef<'_>) -> Result<Opened, OpenFault>
+        requires moment { (held_of self.old).last ≤ now }
+        requires room { HasRoom ask.now }
+        ensures answer { IfOk result (λ opened. opening_answer (held_of self.old) now ≡ Ok opened) }
+        ensures fault { IfErr result (λ fault.
+            ((fault ≡ OpenFault.Memory out_of_memory) × (accepts (held_of self.old) now ≡ true))
+            ⊎ (opening_answer (held_of self.old) now ≡ Err fault)) }
+        ensures room { IsErrOf result (OpenFault.Memory out_of_memory) → (held_of self.old).count < MAX_REMEMBERED }
+        ensures readable { OnOk result (IsReadable ask.now) }
+        ensures held { OnOk result (IsHeld (held_of self.new) (opened_with (held_of self.old) now (ask_in ask.now))) }
+        ensures err { OnErr result (IsHeld (held_of self.new) (held_of self.old)) }
+    {
         if self.is_tag_in_use() {
             return Err(OpenFault::TagInUse);
         }
@@ -384,7 +433,7 @@ impl Requester {
             owner: true,
             tag,
         };
-        put(&mut self.slots, number, command, &route, now);
+        put(&mut self.slots, number, ask, &route, now);
         self.assembler.forget(answer_key(self.device, tag));
         self.count = number + 1;
         self.last = now;
@@ -657,18 +706,6 @@ fn setting_fault(own: Eid, device: Eid, timing: &Timing, pace: &Pace) -> Option<
     None
 }
 
-/// Takes the room for one more request and its answer, where there are not all slots yet.
-fn make_room(slots: &mut Vec<Remembered>) -> Result<(), Memory>
-    ensures items { slots.new.items ≡ slots.old.items }
-    ensures ok { OnOk result (vec_len slots.old < MAX_REMEMBERED → vec_len slots.new < vec_capacity slots.new) }
-    ensures err { OnErr result (vec_len slots.old < MAX_REMEMBERED) }
-{
-    if slots.len() < MAX_REMEMBERED {
-        slots.reserve(1)?;
-    }
-    Ok(())
-}
-
 /// What a tick makes of the last requests, and which are due. No older one is open, so a tick leaves those.
 fn tick_last(slots: &mut [Remembered], count: u64, timing: &Timing, now: Moment) -> Due
     requires slots { AreSlots count slots.old }
@@ -730,28 +767,6 @@ fn earlier(one: Option<u64>, other: Option<u64>) -> Option<u64>
         (Some(one), Some(other)) => Some(if one < other { one } else { other }),
         (Some(one), None) => Some(one),
         (None, other) => other,
-    }
-}
-
-/// Puts a request that is opened now in the slot of its number, or at the end, where there has to be
-/// room. The command goes on this route.
-fn put(slots: &mut Vec<Remembered>, number: u64, command: &Command, route: &Route, now: Moment)
-    requires room { number < MAX_REMEMBERED → vec_len slots.old < vec_capacity slots.old }
-    requires slot { MAX_REMEMBERED ≤ number → vec_len slots.old ≡ MAX_REMEMBERED }
-    ensures items { slots.new.items ≡ put_slot number slots.old.items (record {
-      kind = kind_of command.now;
-      packets = written_packets route.now (command_message (id_of number) command.now);
-      course = begun now;
-    }) }
-    ensures readable { IsCommand command.now }
-{
-    let id = id_of(number);
-    if number < MAX_REMEMBERED as u64 {
-        slots
-            .push(Remembered::new(id, command, route, now))
-            .unwrap();
-    } else {
-        slots[(number % MAX_REMEMBERED as u64) as usize].begin(id, command, route, now);
     }
 }
 
