@@ -119,7 +119,7 @@ values_read (EndOr count) v place rest bytes within split h =
     ⊎_elim
     (λ none. let all : (length bytes == place) ≡ true = eq-eqb (length bytes) place (omega (arith, length-drop place bytes, ap length (split ∙ none))) in rw all refl)
     (λ some. cond-true ((length bytes == place) || (length bytes == place + count)) (Ok tt) (Err WrongLength)
-        (or_right (length bytes == place) (length bytes == place + count) (eq-eqb (length bytes) (place + count) (omega (arith, length-drop place bytes, ap length split, some)))))
+    (or_right (length bytes == place) (length bytes == place + count) (eq-eqb (length bytes) (place + count) (omega (arith, length-drop place bytes, ap length split, some)))))
     h
 values_read (Then shape layout) v place rest bytes within split h =
     let on = split_here place h.0 h.1 bytes within (split ∙ h.4) in
@@ -214,8 +214,8 @@ values_found (Rest test) place bytes within =
 values_found (EndOr count) place bytes within =
     by_test (λ (r : Result (Unit {0}) FieldFault). IfOk r (λ v. StandIn (EndOr count) v (drop place bytes))) ((length bytes == place) || (length bytes == place + count)) (Ok tt) (Err WrongLength)
     (λ t. ⊎_elim (λ none. inl (drop_of_length-le bytes (omega (arith, eqb-true (length bytes) place none))))
-        (λ some. inr (omega (arith, length-drop place bytes, eqb-true (length bytes) (place + count) some)))
-        (or_cases (length bytes == place) (length bytes == place + count) t))
+    (λ some. inr (omega (arith, length-drop place bytes, eqb-true (length bytes) (place + count) some)))
+    (or_cases (length bytes == place) (length bytes == place + count) t))
     (λ _. tt)
 values_found (Then shape layout) place bytes within =
     by_test (λ (r : Result (Value shape) FieldFault). IfOk (and_then {B = Values (Then shape layout)} r (λ v. map_ok (λ vs. (v, vs)) (values_at (layout v) (place + span shape) bytes))) (λ vs. StandIn (Then shape layout) vs (drop place bytes)))

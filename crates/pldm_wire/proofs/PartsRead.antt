@@ -34,5 +34,5 @@ module _ (bytes : List ℕ) (flag : TransferFlag) (is_flag : flag_of (slice_inde
         let end : (length bytes == 11 + u16_at 9 bytes + 1) ≡ true = eq-eqb (length bytes) (11 + u16_at 9 bytes + 1) whole in
         let same : nat_lt (length bytes) (11 + u16_at 9 bytes + 1) ≡ false = up_to (11 + u16_at 9 bytes + 1) (omega (arith, whole)) in
         let byte : slice_index (drop (u16_at 9 bytes) (drop 11 bytes)) 0 ≡ slice_index bytes (11 + u16_at 9 bytes) =
-            get_or-drop (u16_at 9 bytes) (drop 11 bytes) 0 0 ∙ get_or-drop 11 bytes (u16_at 9 bytes + 0) 0 ∙ ap (λ (n : ℕ). slice_index bytes (11 + n)) (omega arith) in
+        get_or-drop (u16_at 9 bytes) (drop 11 bytes) 0 0 ∙ get_or-drop 11 bytes (u16_at 9 bytes + 0) 0 ∙ ap (λ (n : ℕ). slice_index bytes (11 + n)) (omega arith) in
         rw (up_to 4 (omega arith), up_to 8 (omega arith), up_to 9 (omega arith), up_to 11 (omega arith), is_flag, fits, up_to (11 + u16_at 9 bytes) long, last, same, end, byte) refl

@@ -58,25 +58,62 @@ counted_part bytes v h =
     record { kind_is = refl; fields = (refl, refl, subst (λ (n : ℕ). StandIn get_pdr.answer.layout (v.0, (v.1.0, (v.1.1.0, (n, v.1.1.1.1)))) bytes) (sym many) h) }
 
 base_sound : (bytes : List ℕ) → AreSound BASE base_rows bytes
-base_sound bytes =
-  (refl, λ v h. record { kind_is = refl; fields = (refl, refl, h) },
-  (refl, λ v h. record { kind_is = refl; fields = (refl, refl, h) },
-  (refl, whole_versions bytes,
-  (refl, λ v h. record { kind_is = refl; fields = (refl, refl, h) },
-  (refl, λ v h. record { kind_is = refl; fields = (refl, refl, h) },
-  tt)))))
+base_sound bytes = (
+  refl,
+  λ v h. record { kind_is = refl; fields = (refl, refl, h) },
+  (
+    refl,
+    λ v h. record { kind_is = refl; fields = (refl, refl, h) },
+    (
+      refl,
+      whole_versions bytes,
+      (
+        refl,
+        λ v h. record { kind_is = refl; fields = (refl, refl, h) },
+        (
+          refl,
+          λ v h. record { kind_is = refl; fields = (refl, refl, h) },
+          tt,
+        ),
+      ),
+    ),
+  ),
+)
 
 platform_sound : (bytes : List ℕ) → AreSound PLATFORM platform_rows bytes
-platform_sound bytes =
-  (refl, λ v h. record { kind_is = refl; fields = (refl, refl, h) },
-  (refl, counted_sensors bytes,
-  (refl, λ v h. record { kind_is = refl; fields = (refl, refl, h) },
-  (refl, λ v h. record { kind_is = refl; fields = (refl, refl, h) },
-  (refl, λ v h. record { kind_is = refl; fields = (refl, refl, h) },
-  (refl, counted_effecters bytes,
-  (refl, λ v h. record { kind_is = refl; fields = (refl, refl, h) },
-  (refl, counted_part bytes,
-  tt))))))))
+platform_sound bytes = (
+  refl,
+  λ v h. record { kind_is = refl; fields = (refl, refl, h) },
+  (
+    refl,
+    counted_sensors bytes,
+    (
+      refl,
+      λ v h. record { kind_is = refl; fields = (refl, refl, h) },
+      (
+        refl,
+        λ v h. record { kind_is = refl; fields = (refl, refl, h) },
+        (
+          refl,
+          λ v h. record { kind_is = refl; fields = (refl, refl, h) },
+          (
+            refl,
+            counted_effecters bytes,
+            (
+              refl,
+              λ v h. record { kind_is = refl; fields = (refl, refl, h) },
+              (
+                refl,
+                counted_part bytes,
+                tt,
+              ),
+            ),
+          ),
+        ),
+      ),
+    ),
+  ),
+)
 
 success_sound : (pldm_type command : ℕ) (bytes : List ℕ)
     → IfOk (success_of (of_type pldm_type command) bytes) (λ a. AnswerFields a (of_type pldm_type command) SUCCESS bytes)

@@ -41,25 +41,62 @@ counted_sets bytes v h =
     record { kind_is = refl; fields = subst (λ (n : ℕ). StandIn set_state_effecter_states.request.layout (v.0, (n, (v.1.1.0, tt))) bytes) (sym h.3.3.2.0) h }
 
 base_sound : (bytes : List ℕ) → AreSound BASE base_rows bytes
-base_sound bytes =
-  (refl, λ v h. record { kind_is = refl; fields = h },
-  (refl, λ v h. record { kind_is = refl; fields = h },
-  (refl, λ v h. record { kind_is = refl; fields = h },
-  (refl, λ v h. record { kind_is = refl; fields = h },
-  (refl, λ v h. record { kind_is = refl; fields = h },
-  tt)))))
+base_sound bytes = (
+  refl,
+  λ v h. record { kind_is = refl; fields = h },
+  (
+    refl,
+    λ v h. record { kind_is = refl; fields = h },
+    (
+      refl,
+      λ v h. record { kind_is = refl; fields = h },
+      (
+        refl,
+        λ v h. record { kind_is = refl; fields = h },
+        (
+          refl,
+          λ v h. record { kind_is = refl; fields = h },
+          tt,
+        ),
+      ),
+    ),
+  ),
+)
 
 platform_sound : (bytes : List ℕ) → AreSound PLATFORM platform_rows bytes
-platform_sound bytes =
-  (refl, λ v h. record { kind_is = refl; fields = h },
-  (refl, λ v h. record { kind_is = refl; fields = h },
-  (refl, λ v h. record { kind_is = refl; fields = h },
-  (refl, λ v h. record { kind_is = refl; fields = h },
-  (refl, counted_sets bytes,
-  (refl, λ v h. record { kind_is = refl; fields = h },
-  (refl, λ v h. record { kind_is = refl; fields = h },
-  (refl, λ v h. record { kind_is = refl; fields = h },
-  tt))))))))
+platform_sound bytes = (
+  refl,
+  λ v h. record { kind_is = refl; fields = h },
+  (
+    refl,
+    λ v h. record { kind_is = refl; fields = h },
+    (
+      refl,
+      λ v h. record { kind_is = refl; fields = h },
+      (
+        refl,
+        λ v h. record { kind_is = refl; fields = h },
+        (
+          refl,
+          counted_sets bytes,
+          (
+            refl,
+            λ v h. record { kind_is = refl; fields = h },
+            (
+              refl,
+              λ v h. record { kind_is = refl; fields = h },
+              (
+                refl,
+                λ v h. record { kind_is = refl; fields = h },
+                tt,
+              ),
+            ),
+          ),
+        ),
+      ),
+    ),
+  ),
+)
 
 sound : (pldm_type command : ℕ) (bytes : List ℕ)
     → IfOk (command_of (of_type pldm_type command) bytes) (λ c. CommandFields c (of_type pldm_type command) bytes)

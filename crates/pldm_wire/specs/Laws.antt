@@ -1,6 +1,8 @@
 -- Laws of messages, commands, answers and checksums over the definitions alone.
-use Rattle.std.specs.Prelude.{◌≡◌, ℕ, ◌<◌, List, slice_index, Ok}
+use Rattle.std.specs.Prelude.{◌≡◌, ℕ, ◌<◌, List, slice_index, Ok, IfOk}
+use Rattle.pldm_wire.specs.FieldReading.{values_at}
 use Rattle.pldm_wire.specs.Kinds.{TypeAndCommand}
+use Rattle.pldm_wire.specs.Layouts.{Layout, Values, bytes_of, AllInRange, StandIn}
 use Rattle.pldm_wire.specs.Messages.{IsRequest, IsResponse}
 use Rattle.pldm_wire.specs.Requests.{request, request_of}
 use Rattle.pldm_wire.specs.Responses.{response, response_of}
@@ -45,6 +47,23 @@ abbrev pub ResponseReadBack : Type 0
 ResponseReadBack =
     (bytes : List ℕ) (id : ℕ) (kind : TypeAndCommand) (code : ℕ) (rest : List ℕ)
     → IsResponse bytes id kind code rest → response_of bytes ≡ Ok (response id kind code rest)
+
+-- the values that stand in data are read from it
+abbrev pub ValuesReadBack : Type 0
+ValuesReadBack =
+    (layout : Layout) (values : Values layout) (bytes : List ℕ)
+    → StandIn layout values bytes → values_at layout 0 bytes ≡ Ok values
+
+-- what is read from data stands in it
+abbrev pub ValuesFound : Type 0
+ValuesFound =
+    (layout : Layout) (bytes : List ℕ) → IfOk (values_at layout 0 bytes) (λ values. StandIn layout values bytes)
+
+-- what values are written as has them in it
+abbrev pub ValuesWritten : Type 0
+ValuesWritten =
+    (layout : Layout) (values : Values layout)
+    → AllInRange layout values → StandIn layout values (bytes_of layout values)
 
 -- a command whose fields stand in the bytes is read from them
 abbrev pub CommandReadBack : Type 0

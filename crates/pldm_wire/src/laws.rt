@@ -1,6 +1,6 @@
 //! Laws over the definitions alone. Nothing is computed: each function's contract is its law.
 
-ghost use Rattle.pldm_wire.specs.Laws.{AnswerReadBack, AnswerWritten, CommandReadBack, CommandWritten, CrcIsRemainder, OneAnswer, OneCommand, OneRemainder, OneRequest, OneResponse, OnlyCrc, RequestOrResponse, RequestReadBack, ResponseReadBack, WrittenAnswerReadBack, WrittenCommandReadBack};
+ghost use Rattle.pldm_wire.specs.Laws.{AnswerReadBack, AnswerWritten, CommandReadBack, CommandWritten, CrcIsRemainder, OneAnswer, OneCommand, OneRemainder, OneRequest, OneResponse, OnlyCrc, RequestOrResponse, RequestReadBack, ResponseReadBack, ValuesFound, ValuesReadBack, ValuesWritten, WrittenAnswerReadBack, WrittenCommandReadBack};
 ghost use Rattle.pldm_wire.specs.MessageSizes.{CommandFitsOnePacket, CommandIsShort, AnswerFitsMessage};
 
 /// Bytes are one request at most, one response at most, and not both; and each is read as itself.
@@ -10,6 +10,14 @@ pub fn messages_are_told_apart()
     ensures not_both { RequestOrResponse }
     ensures reads_back { RequestReadBack }
     ensures response_reads_back { ResponseReadBack }
+{}
+
+/// Of every layout: the values that stand in data are read from it, what is read from data stands in it, and what
+/// values are written as has them in it. So what is written is read back, and no data has two lists of values.
+pub fn layouts_are_read_back()
+    ensures reads_back { ValuesReadBack }
+    ensures found { ValuesFound }
+    ensures written { ValuesWritten }
 {}
 
 /// A command whose fields stand in the data is read from it, and no two commands of one kind have
