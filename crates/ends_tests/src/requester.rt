@@ -10,6 +10,7 @@ use std::alloc::Global;
 use std::process::Abort;
 use test_support::Hoard;
 
+mod any_type;
 mod paces;
 mod refused_growths;
 
