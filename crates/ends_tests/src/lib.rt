@@ -7,3 +7,5 @@ mod endpoint;
 mod requester;
 #[cfg(test)]
 mod responder;
+#[cfg(test)]
+mod update;
