@@ -7,6 +7,7 @@ use Rattle.pldm_wire.specs.MessageSizes.{CommandFitsOnePacket}
 use Rattle.pldm_wire.specs.declared.command.Command.{Command}
 use Rattle.pldm_responder.specs.Events.{is_busy}
 use Rattle.pldm_responder.specs.Performing.{Rules}
+use Rattle.pldm_requester.specs.Asks.{ask_of}
 use Rattle.pldm_requester.specs.Calls as requester
 use Rattle.pldm_requester.specs.Calls.{Requests, accepts, new_request, open_answer, open_expected, opened, put, requests}
 use Rattle.pldm_requester.specs.Laws.{IsLeftBy, OpenLooksBack, SameIsLeft}
@@ -108,7 +109,7 @@ module _ {P S : Type 0} (setting : BothEnds S) (past : List Step) (run : HeldRun
       let s = (running.sides e has).2 in
       let held = held_of side.station in
       let timing = timing_of setting e in
-      let looked = looks e setting.eid timing setting.pace held (w.calls e) moment command s.left in
+      let looked = looks e setting.eid timing setting.pace held (w.calls e) moment (ask_of command) s.left in
       let off = refused_is (held_steps.is_tag_in_use held) (held_steps.is_id_in_use held moment) held.count fault x.answer in
       let shut = sym looked.1 ∙ off in
       let left = same e setting.eid timing setting.pace (held_of new.station) held (call ∷ w.calls e) x.new_held (looked.3 off) in
@@ -177,7 +178,7 @@ module _ {P S : Type 0} (setting : BothEnds S) (past : List Step) (run : HeldRun
     on = accepted_is (held_steps.is_tag_in_use (held_of side.station)) (held_steps.is_id_in_use (held_of side.station) moment) (held_of side.station).count (opened_as (held_of side.station).count) x.is_sent.opened
 
     looked_accepts : accepts timing.keep setting.pace before moment ≡ true
-    looked_accepts = sym (looks e setting.eid timing setting.pace (held_of side.station) (w.calls e) moment command s.left).1 ∙ on
+    looked_accepts = sym (looks e setting.eid timing setting.pace (held_of side.station) (w.calls e) moment (ask_of command) s.left).1 ∙ on
 
     after : world setting steps ≡ v
     after = ap (λ log. record { calls = with_call w.calls e call; log = log }) (cond-true (accepts timing.keep setting.pace before moment) (Opened (asked_by setting w moment e command) ∷ w.log) w.log looked_accepts)
@@ -216,7 +217,7 @@ module _ {P S : Type 0} (setting : BothEnds S) (past : List Step) (run : HeldRun
       endpoint = s.endpoint;
       other = s.other;
       left = subst (IsLeftBy e setting.eid timing setting.pace (held_of new.station)) (sym (call_here w.calls e call))
-          (same e setting.eid timing setting.pace (held_of new.station) (opened_held (held_of side.station) moment command) (call ∷ w.calls e) x.new_held ((looks e setting.eid timing setting.pace (held_of side.station) (w.calls e) moment command s.left).2 on));
+          (same e setting.eid timing setting.pace (held_of new.station) (opened_held (held_of side.station) moment command) (call ∷ w.calls e) x.new_held ((looks e setting.eid timing setting.pace (held_of side.station) (w.calls e) moment (ask_of command) s.left).2 on));
       numbers = x.more_numbers ∙ ap (λ xs. xs ++ length run.journal.requests.items ∷ []) s.numbers ∙ ap (λ n. numbers_of w.log e ++ n ∷ []) running.counted ∙ sym numbers_here;
       counted = ap (λ (xs : List ℕ). length xs) numbers_here ∙ length_pushed (numbers_of w.log e) count ∙ ap suc s.counted ∙ sym (ap (λ (a : Requests). a.count) here);
       numbered = λ own k at. numbered_at own k (get_pushed (numbers_of w.log e) count own k (sym (ap (λ xs. slice_get xs own) numbers_here) ∙ at));
@@ -354,7 +355,7 @@ module _ {P S : Type 0} (setting : BothEnds S) (past : List Step) (run : HeldRun
     entry_now : entry.Opened (length run.journal.requests.items) ≡ entry_of setting w moment (actions.Open e command)
     entry_now =
         ap entry.Opened running.counted
-        ∙ ap (open_entry count) (sym x.is_sent.opened ∙ (looks e setting.eid timing setting.pace (held_of side.station) (w.calls e) moment command s.left).0)
+        ∙ ap (open_entry count) (sym x.is_sent.opened ∙ (looks e setting.eid timing setting.pace (held_of side.station) (w.calls e) moment (ask_of command) s.left).0)
 
     pub opened_runs : IsRunning setting steps (with_side run e new journal)
     opened_runs =

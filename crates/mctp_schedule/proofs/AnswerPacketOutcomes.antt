@@ -20,7 +20,8 @@ use Rattle.pldm_wire.specs.declared.answer.Answer.TheVariants.{Refused}
 use Rattle.pldm_wire.specs.declared.assigned.TheConstants.{ERROR_NOT_READY}
 use Rattle.pldm_wire.specs.declared.command.Command.{Command}
 use Rattle.pldm_responder.specs.Performing.{busy_reply, reply}
-use Rattle.pldm_requester.specs.Arrivals.{Arrival, Drop, Part, Answer, fed_arrival, response_arrival}
+use Rattle.pldm_requester.specs.Arrivals.{Arrival, Drop, Part, Answer, fed_arrival, is_response_to, response_arrival}
+use Rattle.pldm_requester.specs.Asks.{Ask}
 use Rattle.pldm_requester.specs.Calls.{is_mine}
 use Rattle.pldm_requester.specs.Laws.{FoundOnItsTag, IdsApart}
 use Rattle.pldm_requester.specs.Numbering.{id_of}
@@ -61,11 +62,11 @@ module _ {S : Type 0} (setting : BothEnds S) (lower : Lower) (past : List Step) 
   abbrev m : List ℕ
   m = reply_of setting w k
 
-  abbrev command : Command
-  command = ((requests_of setting w r.source).each r.own).command
-
   known : Known setting w r
   known = (all_known setting past).known k r is
+
+  abbrev command : Command
+  command = known.command
 
   -- ---- the packets
   is_route : IsRoute (way_to setting r)
@@ -132,11 +133,14 @@ module _ {S : Type 0} (setting : BothEnds S) (lower : Lower) (past : List Step) 
   abbrev pub mine : ℕ → Response → Bool
   mine n response = is_mine r.source setting.eid (timing_of setting r.source) (requests_of setting w r.source) n response
 
+  mine_is : (response : Response) → mine r.own response ≡ is_response_to r.own (kind_of command) response
+  mine_is response = ap (λ (a : Ask). is_response_to r.own a.kind response) known.asks
+
   pub busy_brings : (before : List Packet) → fed_arrival mine r.own (next before busy_one) ≡ Drop NotReady
   busy_brings before =
       ap (fed_arrival mine r.own) (given_alone MAX_PACKETS before busy_one (omega arith) busy_starts busy_ends)
       ∙ ap (λ message. response_arrival mine r.own message (response_of message)) busy_payload
-      ∙ answer_arrives lower.responses mine r.own command (busy_reply r.message) (λ response. refl) (record { answer = Refused ERROR_NOT_READY; is = refuses })
+      ∙ answer_arrives lower.responses mine r.own command (busy_reply r.message) mine_is (record { answer = Refused ERROR_NOT_READY; is = refuses })
       ∙ ap (whole_arrival r.own) refuses
 
   -- ---- a packet of the reply
@@ -175,7 +179,7 @@ module _ {S : Type 0} (setting : BothEnds S) (lower : Lower) (past : List Step) 
     brings_whole : in_row ≡ true → fed_arrival mine r.own gave ≡ whole_arrival r.own m
     brings_whole on =
         ap (fed_arrival mine r.own) (whole_is on)
-        ∙ answer_arrives lower.responses mine r.own command m (λ response. refl) (answers j l)
+        ∙ answer_arrives lower.responses mine r.own command m mine_is (answers j l)
 
     off : (in_row && is_ready m) ≡ false → completes setting past k j ≡ false
     off e = completes_is ∙ and_right (nat_lt j (part_count setting w k)) _ (and_right (is_waiting setting w r) _ e)

@@ -45,7 +45,7 @@ course_after (Answer n message) course = answered message course
 -- request n with one more packet, which brought this
 abbrev pub with_arrival : Request → Packet → Arrival → Request
 with_arrival request p arrival =
-    record { command = request.command; course = course_after arrival request.course; fed = p ∷ request.fed }
+    record { ask = request.ask; course = course_after arrival request.course; fed = p ∷ request.fed }
 
 abbrev pub IsOf : ℕ → Arrival → Type 0
 IsOf n (Drop reason) = Unit {0}
@@ -72,14 +72,14 @@ module _ (own device : ℕ) (timing : Timing) (pace : Pace) (calls : List Call) 
   fed_moves n p arrival is = go arrival is
     where
       new : Request
-      new = record { command = (a.each n).command; course = (a.each n).course; fed = p ∷ (a.each n).fed }
+      new = record { ask = (a.each n).ask; course = (a.each n).course; fed = p ∷ (a.each n).fed }
 
       go : (x : Arrival) → IsOf n x → Moved a (answered_by own device timing (with_request a n new) x) n (with_arrival (a.each n) p x)
       go (Drop reason) e = record { count = refl; here = put_here a.each n new n refl; others = λ k ne. put_other a.each n new k ne }
       go Part e = record { count = refl; here = put_here a.each n new n refl; others = λ k ne. put_other a.each n new k ne }
       go (Answer m message) e = record {
         count = refl;
-        here = put_here (put a.each n new) m _ n (sym e) ∙ ap (λ (r : Request). record { command = r.command; course = answered message r.course; fed = r.fed }) (put_here a.each n new m e);
+        here = put_here (put a.each n new) m _ n (sym e) ∙ ap (λ (r : Request). record { ask = r.ask; course = answered message r.course; fed = r.fed }) (put_here a.each n new m e);
         others = λ k ne. put_other (put a.each n new) m _ k (λ s. ne (s ∙ e)) ∙ put_other a.each n new k ne;
       }
 

@@ -7,7 +7,8 @@ use Rattle.mctp_packet.specs.Packets.{Packet}
 use Rattle.mctp_packet.specs.declared.reason.Reason.{Reason}
 use Rattle.pldm_wire.specs.declared.command.Command.{Command}
 use Rattle.pldm_requester.specs.Arrivals.{Arrival, Drop, Part, Answer}
-use Rattle.pldm_requester.specs.Calls.{Call, Open, Tick, Receive, Request, Requests, accepts, after_call, answered_by, arrived, fed_by, fed_to, goes_to, new_request, opened, passed, requests, with_request}
+use Rattle.pldm_requester.specs.Asks.{Ask, ask_of}
+use Rattle.pldm_requester.specs.Calls.{Call, Open, OpenRequest, Tick, Receive, Request, Requests, accepts, after_call, answered_by, arrived, fed_by, fed_to, goes_to, new_request, opened, opened_for, passed, requests, with_request}
 use Rattle.pldm_requester.specs.Numbering.{message_of}
 use Rattle.pldm_requester.specs.declared.pace.Pace.{Pace}
 use Rattle.pldm_requester.specs.declared.timing.Timing.{Timing}
@@ -18,52 +19,52 @@ use Rattle.schedule_text.specs.declared.step.Action.TheVariants as actions
 use Rattle.schedule_text.specs.declared.step.Step.{Step}
 use Rattle.mctp_schedule.proofs.FirstPerformed.{request_below, request_older, request_opened}
 
--- ---- what was opened keeps its command
-pub record KeepsCommands (a b : Requests) : Type 0 where
+-- ---- what was opened keeps what it asks
+pub record KeepsAsks (a b : Requests) : Type 0 where
   pub count : a.count ≤ b.count
-  pub each : (n : ℕ) → n < a.count → (b.each n).command ≡ (a.each n).command
+  pub each : (n : ℕ) → n < a.count → (b.each n).ask ≡ (a.each n).ask
 
-same_keeps : (a : Requests) → KeepsCommands a a
+same_keeps : (a : Requests) → KeepsAsks a a
 same_keeps a = record { count = omega arith; each = λ n within. refl }
 
-both_keep : (a b c : Requests) → KeepsCommands a b → KeepsCommands b c → KeepsCommands a c
+both_keep : (a b c : Requests) → KeepsAsks a b → KeepsAsks b c → KeepsAsks a c
 both_keep a b c x y = record {
   count = let p = x.count in let q = y.count in omega arith;
   each = λ n within. y.each n (let p = x.count in omega arith) ∙ x.each n within;
 }
 
-with_keeps : (a : Requests) (number : ℕ) (request : Request) → request.command ≡ (a.each number).command → KeepsCommands a (with_request a number request)
+with_keeps : (a : Requests) (number : ℕ) (request : Request) → request.ask ≡ (a.each number).ask → KeepsAsks a (with_request a number request)
 with_keeps a number request same = record { count = omega arith; each = λ n within. go n (n == number) refl }
   where
-    go : (n : ℕ) (b : Bool) → (n == number) ≡ b → (if n == number then request else a.each n).command ≡ (a.each n).command
-    go n true t = ap (λ (r : Request). r.command) (cond-true (n == number) request (a.each n) t) ∙ same ∙ ap (λ m. (a.each m).command) (sym (eqb-true n number t))
-    go n false t = ap (λ (r : Request). r.command) (cond-false (n == number) request (a.each n) t)
+    go : (n : ℕ) (b : Bool) → (n == number) ≡ b → (if n == number then request else a.each n).ask ≡ (a.each n).ask
+    go n true t = ap (λ (r : Request). r.ask) (cond-true (n == number) request (a.each n) t) ∙ same ∙ ap (λ m. (a.each m).ask) (sym (eqb-true n number t))
+    go n false t = ap (λ (r : Request). r.ask) (cond-false (n == number) request (a.each n) t)
 
-opened_keeps : (a : Requests) (moment : ℕ) (command : Command) → KeepsCommands a (opened a moment command)
-opened_keeps a moment command = record {
+opened_keeps : (a : Requests) (moment : ℕ) (ask : Ask) → KeepsAsks a (opened_for a moment ask)
+opened_keeps a moment ask = record {
   count = omega arith;
-  each = λ n within. ap (λ (r : Request). r.command) (cond-false (n == a.count) _ (a.each n) (ne_eqb n a.count (λ e. absurd (omega (arith, e)))));
+  each = λ n within. ap (λ (r : Request). r.ask) (cond-false (n == a.count) _ (a.each n) (ne_eqb n a.count (λ e. absurd (omega (arith, e)))));
 }
 
 module _ (own device : ℕ) (timing : Timing) (pace : Pace) where
-  fed_keeps : (a : Requests) (p : Packet) (to : Option ℕ) → KeepsCommands a (fed_to own device timing a p to)
+  fed_keeps : (a : Requests) (p : Packet) (to : Option ℕ) → KeepsAsks a (fed_to own device timing a p to)
   fed_keeps a p None = same_keeps a
   fed_keeps a p (Some n) = with_keeps a n _ refl
 
-  passed_keeps : (a : Requests) (read : Result Packet Reason) → KeepsCommands a (fed_by own device timing a read)
+  passed_keeps : (a : Requests) (read : Result Packet Reason) → KeepsAsks a (fed_by own device timing a read)
   passed_keeps a (Err reason) = same_keeps a
   passed_keeps a (Ok p) = fed_keeps a p (goes_to own device timing a p)
 
-  answered_keeps : (a : Requests) (arrival : Arrival) → KeepsCommands a (answered_by own device timing a arrival)
+  answered_keeps : (a : Requests) (arrival : Arrival) → KeepsAsks a (answered_by own device timing a arrival)
   answered_keeps a (Drop reason) = same_keeps a
   answered_keeps a Part = same_keeps a
   answered_keeps a (Answer n message) = with_keeps a n _ refl
 
-  pub call_keeps : (a : Requests) (call : Call) → KeepsCommands a (after_call own device timing pace a call)
-  call_keeps a (Open moment command) = go (accepts timing.keep pace a moment)
+  pub call_keeps : (a : Requests) (call : Call) → KeepsAsks a (after_call own device timing pace a call)
+  call_keeps a (OpenRequest moment ask) = go (accepts timing.keep pace a moment)
     where
-      go : (b : Bool) → KeepsCommands a (if b then opened a moment command else a)
-      go true = opened_keeps a moment command
+      go : (b : Bool) → KeepsAsks a (if b then opened_for a moment ask else a)
+      go true = opened_keeps a moment ask
       go false = same_keeps a
   call_keeps a (Tick moment) = record { count = omega arith; each = λ n within. refl }
   call_keeps a (Receive moment bytes) =
@@ -119,16 +120,18 @@ module _ {S : Type 0} (setting : BothEnds S) where
   -- ---- the request of its number at its requester
   pub record Known (w : World) (r : Asked) : Type 0 where
     pub within : r.own < (requests_of setting w r.source).count
-    pub message : r.message ≡ message_of r.own ((requests_of setting w r.source).each r.own).command
+    pub command : Command
+    pub asks : ((requests_of setting w r.source).each r.own).ask ≡ ask_of command
+    pub message : r.message ≡ message_of r.own command
 
   pub record AllKnown (w : World) : Type 0 where
     pub known : (k : ℕ) (r : Asked) → asked_at w.log k ≡ Some r → Known w r
     pub distinct : (k i : ℕ) (r q : Asked) → asked_at w.log k ≡ Some r → asked_at w.log i ≡ Some q → r.source ≡ q.source → r.own ≡ q.own → k ≡ i
 
-  calls_keep : (calls : ℕ → List Call) (e : ℕ) (call : Call) (d : ℕ) → KeepsCommands (requests d setting.eid (timing_of setting d) setting.pace (calls d)) (requests d setting.eid (timing_of setting d) setting.pace (with_call calls e call d))
+  calls_keep : (calls : ℕ → List Call) (e : ℕ) (call : Call) (d : ℕ) → KeepsAsks (requests d setting.eid (timing_of setting d) setting.pace (calls d)) (requests d setting.eid (timing_of setting d) setting.pace (with_call calls e call d))
   calls_keep calls e call d = go (d == e)
     where
-      go : (b : Bool) → KeepsCommands (requests d setting.eid (timing_of setting d) setting.pace (calls d)) (requests d setting.eid (timing_of setting d) setting.pace (if b then call ∷ calls d else calls d))
+      go : (b : Bool) → KeepsAsks (requests d setting.eid (timing_of setting d) setting.pace (calls d)) (requests d setting.eid (timing_of setting d) setting.pace (if b then call ∷ calls d else calls d))
       go true = call_keeps d setting.eid (timing_of setting d) setting.pace (requests d setting.eid (timing_of setting d) setting.pace (calls d)) call
       go false = same_keeps (requests d setting.eid (timing_of setting d) setting.pace (calls d))
 
@@ -137,7 +140,9 @@ module _ {S : Type 0} (setting : BothEnds S) where
       let kept = calls_keep w.calls e call r.source in
       record {
         within = let x = kept.count in let y = m.within in omega arith;
-        message = m.message ∙ ap (message_of r.own) (sym (kept.each r.own m.within));
+        command = m.command;
+        asks = kept.each r.own m.within ∙ m.asks;
+        message = m.message;
       }
 
   called_known : (w : World) (e : ℕ) (call : Call) → AllKnown w → AllKnown (record { calls = with_call w.calls e call; log = w.log })
@@ -149,7 +154,7 @@ module _ {S : Type 0} (setting : BothEnds S) where
 
   logged_known : (w : World) (log : List Happening) → ((k : ℕ) → asked_at log k ≡ asked_at w.log k) → AllKnown w → AllKnown (record { calls = w.calls; log = log })
   logged_known w log same a = record {
-    known = λ k r is. let m = a.known k r (sym (same k) ∙ is) in record { within = m.within; message = m.message };
+    known = λ k r is. let m = a.known k r (sym (same k) ∙ is) in record { within = m.within; command = m.command; asks = m.asks; message = m.message };
     distinct = λ k i r q x y. a.distinct k i r q (sym (same k) ∙ x) (sym (same i) ∙ y);
   }
 
@@ -157,10 +162,12 @@ module _ {S : Type 0} (setting : BothEnds S) where
   new_known w moment e command log accepted =
       let a = requests_of setting w e in
       let here : requests e setting.eid (timing_of setting e) setting.pace (with_call w.calls e (Open moment command) e) ≡ opened a moment command = ap (requests e setting.eid (timing_of setting e) setting.pace) (cond-true (e == e) (Open moment command ∷ w.calls e) (w.calls e) (eq-eqb e e refl)) ∙ cond-true (accepts (timing_of setting e).keep setting.pace a moment) (opened a moment command) a accepted in
-      let newest : ((opened a moment command).each a.count).command ≡ command = ap (λ (r : Request). r.command) (cond-true (a.count == a.count) (new_request moment command) (a.each a.count) (eq-eqb a.count a.count refl)) in
+      let newest : ((opened a moment command).each a.count).ask ≡ ask_of command = ap (λ (r : Request). r.ask) (cond-true (a.count == a.count) (new_request moment command) (a.each a.count) (eq-eqb a.count a.count refl)) in
       record {
         within = subst (λ (b : Requests). a.count < b.count) (sym here) (omega arith);
-        message = ap (message_of a.count) (sym (ap (λ (b : Requests). (b.each a.count).command) here ∙ newest));
+        command = command;
+        asks = ap (λ (b : Requests). (b.each a.count).ask) here ∙ newest;
+        message = refl;
       }
 
   opened_known : (w : World) (moment e : ℕ) (command : Command) → AllKnown w → AllKnown (record { calls = with_call w.calls e (Open moment command); log = log_opened setting w moment e command })

@@ -4,9 +4,9 @@ use Rattle.std.specs.Prelude.{◌==◌, if◌then◌else◌}
 use Rattle.std.proofs.lemmas.Bool.{ne_eqb, cond-true, cond-false}
 use Rattle.mctp_packet.specs.Packets.{Packet}
 use Rattle.mctp_packet.specs.declared.reason.Reason.{Reason}
-use Rattle.pldm_wire.specs.declared.command.Command.{Command}
 use Rattle.pldm_requester.specs.Arrivals.{Arrival, Drop, Part, Answer}
-use Rattle.pldm_requester.specs.Calls.{Call, Open, Tick, Receive, Request, Requests, accepts, after_call, answered_by, arrived, fed_by, fed_to, goes_to, last_moment, opened, passed, received, requests, with_request}
+use Rattle.pldm_requester.specs.Asks.{Ask}
+use Rattle.pldm_requester.specs.Calls.{Call, OpenRequest, Tick, Receive, Request, Requests, accepts, after_call, answered_by, arrived, fed_by, fed_to, goes_to, last_moment, opened_for, passed, received, requests, with_request}
 use Rattle.pldm_requester.specs.Courses.{Course, is_given_up, is_sent_again, given_up, sent_again, ticked}
 use Rattle.pldm_requester.specs.Laws.{moment_of}
 use Rattle.pldm_requester.specs.declared.pace.Pace.{Pace}
@@ -33,8 +33,8 @@ with_grows a number request same = record { count = omega arith; each = λ n wit
     go n true t = ap (λ (r : Request). r.course.opening) (cond-true (n == number) request (a.each n) t) ∙ same ∙ ap (λ m. (a.each m).course.opening) (sym (eqb-true n number t))
     go n false t = ap (λ (r : Request). r.course.opening) (cond-false (n == number) request (a.each n) t)
 
-opened_grows : (a : Requests) (moment : ℕ) (command : Command) → Grows a (opened a moment command)
-opened_grows a moment command = record {
+opened_grows : (a : Requests) (moment : ℕ) (ask : Ask) → Grows a (opened_for a moment ask)
+opened_grows a moment ask = record {
   count = omega arith;
   each = λ n within. ap (λ (r : Request). r.course.opening) (cond-false (n == a.count) _ (a.each n) (ne_eqb n a.count (λ e. absurd (omega (arith, e)))));
 }
@@ -62,10 +62,10 @@ module _ (own device : ℕ) (timing : Timing) (pace : Pace) where
   answered_grows a (Answer n message) = with_grows a n _ refl
 
   pub call_grows : (a : Requests) (call : Call) → Grows a (after_call own device timing pace a call)
-  call_grows a (Open moment command) = go (accepts timing.keep pace a moment)
+  call_grows a (OpenRequest moment ask) = go (accepts timing.keep pace a moment)
     where
-      go : (b : Bool) → Grows a (if b then opened a moment command else a)
-      go true = opened_grows a moment command
+      go : (b : Bool) → Grows a (if b then opened_for a moment ask else a)
+      go true = opened_grows a moment ask
       go false = same_grows a
   call_grows a (Tick moment) = record { count = omega arith; each = λ n within. ticked_opening moment (a.each n).course }
   call_grows a (Receive moment bytes) =
@@ -73,7 +73,7 @@ module _ (own device : ℕ) (timing : Timing) (pace : Pace) where
 
   -- a call leaves its moment, or the one before
   pub call_last : (calls : List Call) (call : Call) → last_moment own device timing pace calls ≤ moment_of call → last_moment own device timing pace (call ∷ calls) ≤ moment_of call
-  call_last calls (Open moment command) before = go (accepts timing.keep pace (requests own device timing pace calls) moment)
+  call_last calls (OpenRequest moment ask) before = go (accepts timing.keep pace (requests own device timing pace calls) moment)
     where
       go : (b : Bool) → (if b then moment else last_moment own device timing pace calls) ≤ moment
       go true = omega arith

@@ -3,9 +3,10 @@ use Rattle.std.specs.Prelude.{◌≡◌, ◌⊎◌, ℕ, ◌+◌, ◌*◌, ◌<�
 use Rattle.std.specs.Coded.{Coded, code_by, coded×, coded_ℕ, coded_option}
 use Rattle.mctp_packet.specs.Memories.{out_of_memory}
 use Rattle.mctp_packet.specs.declared.TheConstants.{NULL_EID}
+use Rattle.pldm_requester.specs.Asks.{Ask, ask_of}
 use Rattle.pldm_requester.specs.Deadlines.{IsDeadline}
 use Rattle.pldm_requester.specs.Slots.{RequesterView, coded_view, held_of}
-use Rattle.pldm_requester.specs.Steps.{IsHeld, accepts, again_at, begins_message, given_up_at, got_at, held_at_first, opened_held, opening_answer, passed, received_held, ticked_held}
+use Rattle.pldm_requester.specs.Steps.{IsHeld, accepts, again_at, begins_message, given_up_at, got_at, held_at_first, opened_with, opening_answer, passed, received_held, ticked_held}
 use Rattle.pldm_requester.specs.Timings.{coded_timing, timing_fault}
 use Rattle.pldm_requester.specs.declared.results.Got.{Got}
 use Rattle.pldm_requester.specs.declared.results.Got.TheVariants.{Partial}
@@ -82,16 +83,19 @@ pub record IsNotGot (old : AskingView) (bytes : List ℕ) (new : AskingView) : T
   pub begins : IfSome old.requester (λ r. begins_message (passed (held_of r) bytes) ≡ true)
   pub same : IsSameAsking old new
 
-abbrev pub IsOpenedBy : Option RequesterView → Option RequesterView → ℕ → Command → Opened → Type 0
-IsOpenedBy (Some r) (Some after) now command opened =
-    (opening_answer (held_of r) now ≡ Ok opened) × IsHeld (held_of after) (opened_held (held_of r) now command)
-IsOpenedBy _ _ now command opened = ⊥
+abbrev pub IsOpenedBy : Option RequesterView → Option RequesterView → ℕ → Ask → Opened → Type 0
+IsOpenedBy (Some r) (Some after) now ask opened =
+    (opening_answer (held_of r) now ≡ Ok opened) × IsHeld (held_of after) (opened_with (held_of r) now ask)
+IsOpenedBy _ _ now ask opened = ⊥
 
--- the requester opened a request
-pub record HasOpened (old : AskingView) (now : ℕ) (command : Command) (new : AskingView) (opened : Opened)
-    : Type 0 where
-  pub requester : IsOpenedBy old.requester new.requester now command opened
+-- the requester opened a request that asks so
+pub record HasOpenedFor (old : AskingView) (now : ℕ) (ask : Ask) (new : AskingView) (opened : Opened) : Type 0 where
+  pub requester : IsOpenedBy old.requester new.requester now ask opened
   pub half : IsSameHalf old new
+
+-- it opened one for a command
+abbrev pub HasOpened : (old : AskingView) (now : ℕ) (command : Command) (new : AskingView) → Opened → Type 0
+HasOpened old now command new opened = HasOpenedFor old now (ask_of command) new opened
 
 -- why a requester opens none, or memory was refused, which only the first requests need
 abbrev pub IsItsFault : RequesterView → ℕ → OpenFault → Type 0

@@ -1,14 +1,14 @@
 -- What each half of an end that answers and asks makes of the packets of the other, and what the calls leave of it.
 use Rattle.std.specs.Prelude.{◌≡◌, ℕ, ◌+◌, ◌*◌, ◌<◌, ◌≤◌, true, false, List, [], ◌∷◌, Some, slice_get, if◌then◌else◌}
 use Rattle.mctp_packet.specs.declared.reason.Reason.{Reason}
+use Rattle.pldm_requester.specs.Asks.{Ask}
 use Rattle.pldm_requester.specs.Calls as requester
 use Rattle.pldm_requester.specs.Laws.{IsInOrder, IsLeftBy}
-use Rattle.pldm_requester.specs.Steps.{IsHeld, RequesterState, accepts, got_at, opened_held, received_held, ticked_held}
+use Rattle.pldm_requester.specs.Steps.{IsHeld, RequesterState, accepts, got_at, opened_with, received_held, ticked_held}
 use Rattle.pldm_requester.specs.declared.results.Got.TheVariants.{Dropped}
 use Rattle.pldm_requester.specs.declared.pace.Pace.{Pace}
 use Rattle.pldm_requester.specs.declared.timing.Timing.{Timing}
 use Rattle.pldm_responder.specs.Arrivals.{request_packet}
-use Rattle.pldm_wire.specs.declared.command.Command.{Command}
 use Rattle.std.specs.Prelude.{Err}
 use Rattle.pldm_terminus.specs.Directions.{is_answer}
 
@@ -29,7 +29,7 @@ AsksNothing =
 -- a call of an end that answers and asks, as far as its requester sees it
 pub data TerminusCall : Type 0 where
   Came : (moment : ℕ) → (bytes : List ℕ) → TerminusCall
-  Opens : (moment : ℕ) → (command : Command) → TerminusCall
+  Opens : (moment : ℕ) → (ask : Ask) → TerminusCall
   Ticks : (moment : ℕ) → TerminusCall
   Answers : TerminusCall
 
@@ -38,15 +38,14 @@ abbrev pub asking_calls : List TerminusCall → List requester.Call
 asking_calls [] = []
 asking_calls (Came moment bytes ∷ calls) =
     if is_answer bytes then requester.Receive moment bytes ∷ asking_calls calls else asking_calls calls
-asking_calls (Opens moment command ∷ calls) = requester.Open moment command ∷ asking_calls calls
+asking_calls (Opens moment ask ∷ calls) = requester.OpenRequest moment ask ∷ asking_calls calls
 asking_calls (Ticks moment ∷ calls) = requester.Tick moment ∷ asking_calls calls
 asking_calls (Answers ∷ calls) = asking_calls calls
 
 -- what the requester holds after a call
 abbrev pub asking_after : RequesterState → TerminusCall → RequesterState
 asking_after held (Came moment bytes) = if is_answer bytes then received_held held moment bytes else held
-asking_after held (Opens moment command) =
-    if accepts held moment then opened_held held moment command else held
+asking_after held (Opens moment ask) = if accepts held moment then opened_with held moment ask else held
 asking_after held (Ticks moment) = ticked_held held moment
 asking_after held Answers = held
 

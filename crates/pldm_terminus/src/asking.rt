@@ -1,14 +1,16 @@
 //! The asking half of an end: its requester, while it has one, and when it may ask.
 
-ghost use Rattle.std.specs.Prelude.{◌≡◌, ◌≤◌, IfOk, IfErr, OnOk, OnErr, is_some, option_map, true};
+ghost use Rattle.std.specs.Prelude.{◌≡◌, ◌≤◌, None, IfOk, IfErr, IfSome, OnOk, OnErr, is_some, length, option_map, true};
 ghost use Rattle.pldm_responder.specs.Ends.{eid_or_null};
 ghost use Rattle.pldm_wire.specs.Commands.{IsCommand};
-ghost use Rattle.pldm_terminus.specs.Askings.{CameBefore, HasBegun, HasOpened, HasTicked, IsBegunAt, IsGot, IsNextDeadline, IsNotGot, IsSameAsking, IsWhyNotOpened};
+ghost use Rattle.pldm_wire.specs.declared.limits.TheConstants.{MAX_REQUEST_DATA};
+ghost use Rattle.pldm_requester.specs.Asks.{ask_for};
+ghost use Rattle.pldm_terminus.specs.Askings.{CameBefore, HasBegun, HasOpened, HasOpenedFor, HasTicked, IsBegunAt, IsGot, IsNextDeadline, IsNotGot, IsSameAsking, IsWhyNotOpened};
 
 use arrayvec::ArrayVec;
 use mctp_packet::{Eid, Memory, Moment, Reason};
 use pldm_requester::{Due, Got, OpenFault, Opened, Requester, Timing};
-use pldm_wire::Command;
+use pldm_wire::{Command, Kind};
 use std::alloc::Global;
 use std::marker::Model;
 use thiserror::Error;
@@ -115,6 +117,20 @@ impl AskingHalf {
         }
     }
 
+    /// Why nothing is opened now, whatever is asked.
+    fn refusal(&self, now: Moment) -> Option<AskFault>
+        ensures why { IfSome result (IsWhyNotOpened self.now now) }
+        ensures rested { result ≡ None → self.now.rest ≤ now }
+    {
+        if self.requester.is_none() {
+            return Some(AskFault::NoEid);
+        }
+        if now.get() < self.rest {
+            return Some(AskFault::Resting);
+        }
+        None
+    }
+
     /// Opens a request, as [`Requester::open`] does, where it may.
     pub(crate) fn open(&mut self, now: Moment, command: &Command) -> Result<Opened, AskFault>
         requires { CameBefore self.old.requester now }
@@ -124,13 +140,39 @@ impl AskingHalf {
         ensures readable { OnOk result (IsCommand command.now) }
         ensures err { OnErr result (IsSameAsking self.old self.new) }
     {
+        if let Some(fault) = self.refusal(now) {
+            return Err(fault);
+        }
         let Some(requester) = &mut self.requester else {
             return Err(AskFault::NoEid);
         };
-        if now.get() < self.rest {
-            return Err(AskFault::Resting);
-        }
         match requester.open(now, command) {
+            Ok(opened) => Ok(opened),
+            Err(fault) => Err(AskFault::Open(fault)),
+        }
+    }
+
+    /// Opens a request of any PLDM type, as [`Requester::open_request`] does, where it may.
+    pub(crate) fn open_request(
+        &mut self,
+        now: Moment,
+        kind: Kind,
+        data: &[u8],
+    ) -> Result<Opened, AskFault>
+        requires moment { CameBefore self.old.requester now }
+        requires few { length data.now ≤ MAX_REQUEST_DATA }
+        ensures rested { OnOk result (self.old.rest ≤ now) }
+        ensures opened { IfOk result (HasOpenedFor self.old now (ask_for kind data.now) self.new) }
+        ensures why { IfErr result (IsWhyNotOpened self.old now) }
+        ensures err { OnErr result (IsSameAsking self.old self.new) }
+    {
+        if let Some(fault) = self.refusal(now) {
+            return Err(fault);
+        }
+        let Some(requester) = &mut self.requester else {
+            return Err(AskFault::NoEid);
+        };
+        match requester.open_request(now, kind, data) {
             Ok(opened) => Ok(opened),
             Err(fault) => Err(AskFault::Open(fault)),
         }

@@ -11,7 +11,9 @@ ghost use Rattle.pldm_responder.specs.Asked.{Answered};
 ghost use Rattle.pldm_responder.specs.ResponderStates.{IsHeld as IsHeldAt};
 ghost use Rattle.pldm_responder.specs.Steps.{restarted_held};
 ghost use Rattle.pldm_wire.specs.Commands.{IsCommand};
-ghost use Rattle.pldm_terminus.specs.Askings.{CameBefore, HasBegun, HasOpened, HasTicked, IsBegunAt, IsNextDeadline, IsSameAsking, IsWhyNotOpened};
+ghost use Rattle.pldm_wire.specs.declared.limits.TheConstants.{MAX_REQUEST_DATA};
+ghost use Rattle.pldm_requester.specs.Asks.{ask_for};
+ghost use Rattle.pldm_terminus.specs.Askings.{CameBefore, HasBegun, HasOpened, HasOpenedFor, HasTicked, IsBegunAt, IsNextDeadline, IsSameAsking, IsWhyNotOpened};
 ghost use Rattle.pldm_terminus.specs.Directions.{is_answer};
 ghost use Rattle.pldm_terminus.specs.Termini.{HasComeTo, IsFollowed, IsRefusedAt};
 
@@ -22,7 +24,7 @@ use mctp_packet::{Body, Eid, Moment, NULL_EID};
 use pldm_endpoint::{AnswerRefusal, CommandHandle, ReceiveRefusal};
 use pldm_requester::{Due, Got, Opened, Requester, Timing};
 use pldm_responder::MessageOutcome;
-use pldm_wire::{Answer, Command, MAX_RESPONSE_DATA};
+use pldm_wire::{Answer, Command, Kind, MAX_RESPONSE_DATA};
 use std::alloc::Global;
 use std::marker::Model;
 
@@ -144,6 +146,27 @@ impl Terminus {
         ensures answering { self.new.answering ≡ self.old.answering }
     {
         self.asking.open(now, command)
+    }
+
+    /// Opens a request of any PLDM type to the peer: of this type and command, with this data, which is what follows
+    /// its header (DSP0240, "PLDM message fields"). Data has at most [`MAX_REQUEST_DATA`] bytes. Its packets are to be
+    /// sent then.
+    ///
+    /// # Errors
+    ///
+    /// As from [`Terminus::open`].
+    ///
+    /// [`MAX_REQUEST_DATA`]: pldm_wire::MAX_REQUEST_DATA
+    pub fn open_request(&mut self, now: Moment, kind: Kind, data: &[u8]) -> Result<Opened, AskFault>
+        requires moment { CameBefore self.old.asking.requester now }
+        requires few { length data.now ≤ MAX_REQUEST_DATA }
+        ensures rested { OnOk result (self.old.asking.rest ≤ now) }
+        ensures opened { IfOk result (HasOpenedFor self.old.asking now (ask_for kind data.now) self.new.asking) }
+        ensures why { IfErr result (IsWhyNotOpened self.old.asking now) }
+        ensures err { OnErr result (IsSameAsking self.old.asking self.new.asking) }
+        ensures answering { self.new.answering ≡ self.old.answering }
+    {
+        self.asking.open_request(now, kind, data)
     }
 
     /// Says which of its own requests are due, as [`Requester::tick`] does: none, where there is no endpoint ID to ask
