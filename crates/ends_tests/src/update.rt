@@ -13,10 +13,13 @@ mod ends;
 mod line;
 
 /// The bytes of the image: the last piece is shorter.
-const IMAGE_BYTES: u32 = 4000;
+const IMAGE_BYTES: u32 = 65_000;
 
 /// The most bytes of a piece.
 const MOST: u32 = 256;
+
+/// How many packets each end takes in a millisecond.
+const MOST_PACKETS: u8 = 20;
 
 /// The component.
 const BOARD: Component = Component {
@@ -34,11 +37,13 @@ fn pass(
     to_agent: &mut Line,
     to_device: &mut Line,
 ) {
-    while let Some(packet) = to_device.next(now) {
-        device.take(rt, now, &packet, to_agent);
-    }
-    while let Some(packet) = to_agent.next(now) {
-        agent.take(rt, now, &packet, to_device);
+    for _ in 0..MOST_PACKETS {
+        if let Some(packet) = to_device.next(now) {
+            device.take(rt, now, &packet, to_agent);
+        }
+        if let Some(packet) = to_agent.next(now) {
+            agent.take(rt, now, &packet, to_device);
+        }
     }
     device.ask(rt, now, to_agent);
     agent.ask(rt, now, to_device);
@@ -46,7 +51,7 @@ fn pass(
 
 #[test]
 fn image_comes_whole_over_a_lossy_line(rt: HostRuntime) {
-    for seed in 1..4u64 {
+    for seed in 1..11u64 {
         let mut agent = AgentEnd::new(&rt, rt.alloc());
         let mut device = DeviceEnd::new(&rt, rt.alloc());
         let mut to_agent = Line::new(rt.alloc(), Chance::new(seed));
@@ -56,11 +61,18 @@ fn image_comes_whole_over_a_lossy_line(rt: HostRuntime) {
                 break;
             }
             let now = Moment::new(turn).expect(&rt, "a moment");
-            pass(&rt, now, &mut agent, &mut device, &mut to_agent, &mut to_device);
+            pass(
+                &rt,
+                now,
+                &mut agent,
+                &mut device,
+                &mut to_agent,
+                &mut to_device,
+            );
         }
-        assert_eq!(&rt; agent.stage(), AgentStage::Over(true), "seed {seed}");
-        assert_eq!(&rt; device.stage(), Stage::Idle, "seed {seed}");
-        assert_eq!(&rt; device.flash(), agent.image(), "seed {seed}");
-        assert!(&rt; to_agent.lost() > 0 && to_device.lost() > 0, "seed {seed}");
+        assert_eq!(rt; agent.stage(), AgentStage::Over(true), "seed {seed}");
+        assert_eq!(rt; device.stage(), Stage::Idle, "seed {seed}");
+        assert_eq!(rt; device.flash(), agent.image(), "seed {seed}");
+        assert!(rt; to_agent.lost() > 0 && to_device.lost() > 0, "seed {seed}");
     }
 }

@@ -16,6 +16,7 @@ use std::alloc::Global;
 use std::process::Abort;
 
 /// An agent at endpoint 8, with an image for the device at 9.
+#[derive(Drop)]
 pub(super) struct AgentEnd {
     end: Terminus,
     machine: UpdateAgent,
@@ -61,8 +62,8 @@ fn reply_of(code: u8) -> DeviceReply {
 }
 
 /// This answer, or why there is none.
-fn answered(result: Result<(), Code>, answer: UpdateAnswer) -> UpdateAnswer {
-    match result {
+fn answered(taken: Result<(), Code>, answer: UpdateAnswer) -> UpdateAnswer {
+    match taken {
         Ok(()) => answer,
         Err(code) => UpdateAnswer::Refused(code),
     }

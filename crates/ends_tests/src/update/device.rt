@@ -16,6 +16,7 @@ use std::alloc::Global;
 use std::process::Abort;
 
 /// A device at endpoint 9, whose agent is at 8.
+#[derive(Drop)]
 pub(super) struct DeviceEnd {
     end: Terminus,
     machine: FirmwareDevice,

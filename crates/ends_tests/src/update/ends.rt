@@ -3,10 +3,10 @@
 use crate::update::line::Line;
 use arrayvec::ArrayVec;
 use bus_endpoint::BusEndpoint;
-use mctp_packet::{Body, Eid, Keep, Moment};
+use mctp_packet::{Body, Eid, Keep, Moment, split};
 use pldm_endpoint::{CommandHandle, Endpoint};
 use pldm_requester::{Due, Opened, Status, Timing};
-use pldm_responder::{Bounds, MessageOutcome, Outcome, ResponderSettings};
+use pldm_responder::{Bounds, MessageOutcome, ResponderSettings};
 use pldm_terminus::{Terminus, TerminusStep};
 use pldm_update::{
     FIRMWARE_UPDATE, UpdateAnswer, UpdateCommand, UpdateData, update_answer_data,
@@ -60,7 +60,8 @@ pub(super) fn request(rt: &impl Abort, end: &Terminus, handle: &CommandHandle) -
     let request = end.answering().endpoint().request(handle);
     let request = request.expect(rt, "a request");
     let mut data = UpdateData::new();
-    data.try_extend_from_slice(request.data()).expect(rt, "data");
+    data.try_extend_from_slice(request.data())
+        .expect(rt, "data");
     (request.kind().command, data)
 }
 
@@ -80,8 +81,15 @@ pub(super) fn respond(
 }
 
 /// Sends what answers a packet, if anything does.
-pub(super) fn send(rt: &impl Abort, now: Moment, taken: MessageOutcome, reply: &Body, line: &mut Line) {
-    if let Outcome::Answered { packets, .. } = taken.outcome(reply) {
+pub(super) fn send(
+    rt: &impl Abort,
+    now: Moment,
+    taken: MessageOutcome,
+    reply: &Body,
+    line: &mut Line,
+) {
+    if let MessageOutcome::Answered { route, .. } = taken {
+        let packets = split(&route, reply).expect(rt, "packets");
         line.send(rt, now, &packets);
     }
 }
@@ -110,7 +118,13 @@ pub(super) fn open(
 }
 
 /// Sends the packets of a request.
-pub(super) fn send_request(rt: &impl Abort, end: &Terminus, now: Moment, number: u64, line: &mut Line) {
+pub(super) fn send_request(
+    rt: &impl Abort,
+    end: &Terminus,
+    now: Moment,
+    number: u64,
+    line: &mut Line,
+) {
     let requester = end.asking().expect(rt, "a requester");
     line.send(rt, now, requester.packets(number).expect(rt, "packets"));
 }
@@ -132,6 +146,7 @@ pub(super) fn response(rt: &impl Abort, end: &Terminus, number: u64) -> (u8, Upd
     };
     let response = read_response(message).expect(rt, "a response");
     let mut data = UpdateData::new();
-    data.try_extend_from_slice(response.data()).expect(rt, "data");
+    data.try_extend_from_slice(response.data())
+        .expect(rt, "data");
     (response.code(), data)
 }

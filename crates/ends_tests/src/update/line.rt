@@ -6,6 +6,7 @@ use std::alloc::Global;
 use std::process::Abort;
 
 /// Numbers that look like chance, the same for each seed, which is not 0.
+#[derive(Drop)]
 pub(super) struct Chance {
     state: u64,
 }
@@ -25,12 +26,14 @@ impl Chance {
 }
 
 /// A packet on its way, and the millisecond at which it comes.
+#[derive(Drop)]
 struct Flight {
     due: u64,
     bytes: ArrayVec<u8, MAX_PACKET_BYTES>,
 }
 
 /// One direction of the line.
+#[derive(Drop)]
 pub(super) struct Line {
     flights: Vec<Flight>,
     chance: Chance,
@@ -78,7 +81,10 @@ impl Line {
 
     /// The next packet that has come at this moment, if any has.
     pub(super) fn next(&mut self, now: Moment) -> Option<ArrayVec<u8, MAX_PACKET_BYTES>> {
-        let at = self.flights.iter().position(|flight| flight.due <= now.get())?;
+        let at = self
+            .flights
+            .iter()
+            .position(|flight| flight.due <= now.get())?;
         Some(self.flights.remove(at).bytes)
     }
 }
