@@ -10,3 +10,4 @@ pub mod OfferedImage
 mod AllApplied
 mod PieceParts
 mod Numbers
+mod ManyFields
