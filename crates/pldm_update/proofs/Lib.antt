@@ -11,3 +11,6 @@ mod AllApplied
 mod PieceParts
 mod Numbers
 mod ManyFields
+mod PackageSteps
+mod PackageParts
+mod PackagesRead

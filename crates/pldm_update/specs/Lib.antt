@@ -27,3 +27,4 @@ pub mod AgentLaws
 pub mod PackageFields
 pub mod Packages
 pub mod PackageReading
+pub mod PackageLaws
