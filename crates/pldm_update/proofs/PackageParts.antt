@@ -1,15 +1,15 @@
 -- The parts of a package's header: what is read was taken from the front, and what is written is read again.
-use Rattle.std.proofs.Common.{◌≡◌, ℕ, ◌+◌, ◌^◌, ◌<◌, ◌≤◌, ◌==◌, not, true, false, List, ◌++◌, length, Ok, refl, sym, ap, subst, ◌∙◌, append_assoc, arith, eqb-true}
+use Rattle.std.proofs.Common.{◌≡◌, ℕ, ◌+◌, ◌^◌, ◌<◌, ◌≤◌, not, List, ◌++◌, length, refl, sym, ap, subst, ◌∙◌, append_assoc, arith, eqb-true}
 use Rattle.std.proofs.lemmas.Bool.{eq-eqb, eqb-false, ne_eqb}
 use Rattle.std.proofs.lemmas.List.{length-append}
 use Rattle.std.specs.List.{flat_map}
 use Rattle.byteorder.specs.Endian.{little_bytes}
 use Rattle.byteorder.specs.Numbers.{length-bytes_low_first}
-use Rattle.pldm_update.specs.VersionTexts.{VersionText, IsVersionText}
+use Rattle.pldm_update.specs.VersionTexts.{VersionText, IsVersionText, version_text}
 use Rattle.pldm_update.specs.PackageFields.{byte}
 use Rattle.pldm_update.specs.Packages.{Descriptor, Device, Image, text_bytes, descriptor_bytes, device_fields_bytes, device_bytes, image_bytes, IsDescriptor, IsDevice, IsImage}
 use Rattle.pldm_update.specs.PackageReading.{text_at, descriptor_at, device_at, image_at}
-use Rattle.pldm_update.proofs.PackageSteps.{IsBytes, IsTaken, IsAgain, stepped, goes_on, went_by, goes_by, not_false, ok_is, Takes, with_next, byte_taken, byte_again, number_taken, number_again, list_taken, list_again, many_taken, many_again}
+use Rattle.pldm_update.proofs.PackageSteps.{IsTaken, IsAgain, stepped, goes_on, went_by, goes_by, not_false, ok_is, Takes, with_next, byte_taken, byte_again, number_taken, number_again, list_taken, list_again, many_taken, many_again}
 
 regroup_3 : (a b c rest : List ℕ) → (a ++ b ++ c) ++ rest ≡ a ++ (b ++ (c ++ rest))
 regroup_3 a b c rest = simp append_assoc
@@ -76,12 +76,22 @@ device_taken applicable_bytes bytes small x e =
     let text : Takes f4.1 (byte (length f8.0)) f5.1 = subst (λ (n : ℕ). Takes f4.1 (byte n) f5.1) (sym t8.1) t5.0 in
     let left : Takes f5.1 (little_bytes 2 (length f10.0)) f6.1 = subst (λ (n : ℕ). Takes f5.1 (little_bytes 2 n) f6.1) (sym t10.1) t6.0 in
     let fields = with_next (with_next (with_next (with_next (with_next (with_next (with_next (with_next count t3.0) t4.0) text) left) t7.0) t8.0) t9.0) t10.0 in
-    let size : f1.0 ≡ 2 + length _ = size_counted f1.0 bytes f1.1 _ f10.1 t1.0.parts fields.parts (eqb-true _ _ (not_false _ same)) in
-    let first : Takes bytes (little_bytes 2 (2 + length _)) f1.1 = subst (λ (n : ℕ). Takes bytes (little_bytes 2 n) f1.1) size t1.0 in
-    subst (λ (y : Device × List ℕ). Takes bytes (device_bytes y.0) y.1 × IsDevice applicable_bytes y.0) (ok_is e12)
-    (with_next first fields,
-    (t3.1, omega (arith, t5.1, t8.1), subst (λ (n : ℕ). n < 256 ^ 2) (sym t10.1) t6.1,
-    t7.1, omega (arith, eqb-false _ _ some, t9.1.counted), omega (arith, t2.1, t9.1.counted), t9.1.each, subst (λ (n : ℕ). n < 256 ^ 2) size t1.1))))))))))))))
+    let d : Device = record { option_flags = f3.0; version = version_text f4.0 f8.0; applicable = f7.0; descriptors = f9.0; package_data = f10.0 } in
+    let size : f1.0 ≡ 2 + length (device_fields_bytes d) = size_counted f1.0 bytes f1.1 (device_fields_bytes d) f10.1 t1.0.parts fields.parts (eqb-true _ _ (not_false _ same)) in
+    let first : Takes bytes (little_bytes 2 (2 + length (device_fields_bytes d))) f1.1 = subst (λ (n : ℕ). Takes bytes (little_bytes 2 n) f1.1) size t1.0 in
+    subst (λ (y : Device × List ℕ). Takes bytes (device_bytes y.0) y.1 × IsDevice applicable_bytes y.0) (ok_is e12) (
+      with_next first fields,
+      (
+        t3.1,
+        omega (arith, t5.1, t8.1),
+        subst (λ (n : ℕ). n < 256 ^ 2) (sym t10.1) t6.1,
+        t7.1,
+        omega (arith, eqb-false _ _ some, t9.1.counted),
+        omega (arith, t2.1, t9.1.counted),
+        t9.1.each,
+        subst (λ (n : ℕ). n < 256 ^ 2) size t1.1,
+      ),
+    )))))))))))))
 
 pub device_again : (applicable_bytes : ℕ) → IsAgain (device_at applicable_bytes) device_bytes (IsDevice applicable_bytes)
 unfolding device_at
@@ -117,9 +127,10 @@ image_taken bytes small x e =
     stepped e5 (number_taken 4 f5.1 t5.0.small) (λ f6 t6 e6.
     stepped e6 (number_taken 4 f6.1 t6.0.small) (λ f7 t7 e7.
     stepped e7 (text_taken f7.1 t7.0.small) (λ f8 t8 e8.
-    subst (λ (y : Image × List ℕ). Takes bytes (image_bytes y.0) y.1 × IsImage y.0) (ok_is e8)
-    (with_next (with_next (with_next (with_next (with_next (with_next (with_next t1.0 t2.0) t3.0) t4.0) t5.0) t6.0) t7.0) t8.0,
-    (t1.1, t2.1, t3.1, t4.1, t5.1, t6.1, t7.1, t8.1))))))))))
+    subst (λ (y : Image × List ℕ). Takes bytes (image_bytes y.0) y.1 × IsImage y.0) (ok_is e8) (
+      with_next (with_next (with_next (with_next (with_next (with_next (with_next t1.0 t2.0) t3.0) t4.0) t5.0) t6.0) t7.0) t8.0,
+      (t1.1, t2.1, t3.1, t4.1, t5.1, t6.1, t7.1, t8.1),
+    )))))))))
 
 pub image_again : IsAgain image_at image_bytes IsImage
 unfolding image_at

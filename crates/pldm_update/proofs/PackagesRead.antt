@@ -1,5 +1,5 @@
 -- What is read of a file is the package that the file has, and every package that it has is read.
-use Rattle.std.proofs.Common.{◌≡◌, ℕ, zero, suc, ◌+◌, ◌-◌, ◌*◌, ◌/◌, ◌%◌, ◌^◌, ◌<◌, ◌≤◌, ◌==◌, Bool, ◌&&◌, not, true, false, List, [], ◌∷◌, ◌++◌, length, take, Result, Ok, Err, IfOk, refl, sym, ap, subst, ◌∙◌, append_assoc, arith, eqb-true, w32}
+use Rattle.std.proofs.Common.{◌≡◌, ℕ, zero, suc, ◌+◌, ◌-◌, ◌*◌, ◌/◌, ◌%◌, ◌^◌, ◌<◌, Bool, ◌&&◌, not, true, false, List, [], ◌∷◌, ◌++◌, length, take, Result, Ok, Err, IfOk, refl, sym, ap, subst, ◌∙◌, append_assoc, arith, eqb-true}
 use Rattle.std.proofs.lemmas.Bool.{eq-eqb, leb-true, le-leb}
 use Rattle.std.proofs.lemmas.List.{length-append, take_at}
 use Rattle.std.proofs.lemmas.Nat.{xor_lt}
@@ -11,7 +11,7 @@ use Rattle.byteorder.specs.Numbers.{length-bytes_low_first}
 use Rattle.pldm_wire.specs.Crc32.{crc32, divided_bits}
 use Rattle.pldm_update.specs.VersionTexts.{IsVersionText}
 use Rattle.pldm_update.specs.PackageFields.{byte, many_at}
-use Rattle.pldm_update.specs.Packages.{Device, Image, Package, package_identifier, text_bytes, device_bytes, image_bytes, package_fields_bytes, header_size, checked_bytes, header_bytes, Each, IsDevice, IsImage, IsPackage, IsPlaced, HasPackage}
+use Rattle.pldm_update.specs.Packages.{Image, Package, package_identifier, text_bytes, device_bytes, image_bytes, package_fields_bytes, header_size, checked_bytes, Each, IsDevice, IsImage, IsPackage, IsPlaced, HasPackage}
 use Rattle.pldm_update.specs.PackageReading.{size_at, device_at, image_at, package_fields_at, is_placed, all_placed, package_of}
 use Rattle.pldm_update.specs.declared.package_fault.PackageFault.{PackageFault}
 use Rattle.pldm_update.proofs.PackageSteps.{IsBytes, stepped, goes_on, went_by, goes_by, not_false, ok_is, Takes, with_next, byte_taken, byte_again, number_taken, number_again, list_taken, list_again, many_taken, many_again}
@@ -91,18 +91,19 @@ fields_taken file bytes small x e =
     let bits : Takes f1.1 (little_bytes 2 (f2.0 / 8 * 8)) f2.1 = subst (λ (n : ℕ). Takes f1.1 (little_bytes 2 n) f2.1) eight t2.0 in
     let devices : Takes f3.1 (byte (length f5.0)) f4.1 = subst (λ (n : ℕ). Takes f3.1 (byte n) f4.1) (sym t5.1.counted) t4.0 in
     let images : Takes f5.1 (little_bytes 2 (length f7.0)) f6.1 = subst (λ (n : ℕ). Takes f5.1 (little_bytes 2 n) f6.1) (sym t7.1.counted) t6.0 in
-    subst (λ (y : Package × List ℕ). Takes bytes (package_fields_bytes y.0) y.1 × AreFields file y.0) (ok_is e8)
-    (with_next (with_next (with_next (with_next (with_next (with_next t1.0 bits) t3.0) devices) t5.0) images) t7.0,
-    record {
-      is = refl;
-      release = t1.1;
-      bits = subst (λ (n : ℕ). n < 256 ^ 2) eight t2.1;
-      version = t3.1;
-      device_count = subst (λ (n : ℕ). n < 256) (sym t5.1.counted) t4.1;
-      devices = t5.1.each;
-      image_count = subst (λ (n : ℕ). n < 256 ^ 2) (sym t7.1.counted) t6.1;
-      images = t7.1.each;
-    })))))))))
+    subst (λ (y : Package × List ℕ). Takes bytes (package_fields_bytes y.0) y.1 × AreFields file y.0) (ok_is e8) (
+      with_next (with_next (with_next (with_next (with_next (with_next t1.0 bits) t3.0) devices) t5.0) images) t7.0,
+      record {
+        is = refl;
+        release = t1.1;
+        bits = subst (λ (n : ℕ). n < 256 ^ 2) eight t2.1;
+        version = t3.1;
+        device_count = subst (λ (n : ℕ). n < 256) (sym t5.1.counted) t4.1;
+        devices = t5.1.each;
+        image_count = subst (λ (n : ℕ). n < 256 ^ 2) (sym t7.1.counted) t6.1;
+        images = t7.1.each;
+      },
+    )))))))))
 
 fields_again : (p : Package) (rest : List ℕ) → IsPackage p → package_fields_at p.file (package_fields_bytes p ++ rest) ≡ Ok (p, rest)
 unfolding package_fields_at

@@ -44,7 +44,9 @@ device_at applicable_bytes bytes = do
         applicable = applicable.0;
         descriptors = descriptors.0;
         package_data = package_data.0;
-      }, package_data.1)))
+      },
+      package_data.1,
+    )))
 
 unfoldable pub image_at : List ℕ → Field Image
 image_at bytes = do
@@ -66,7 +68,9 @@ image_at bytes = do
       offset = offset.0;
       size = size.0;
       version = version.0;
-    }, version.1)
+    },
+    version.1,
+  )
 
 -- the identifier and the revision, and then the header's size
 unfoldable pub size_at : List ℕ → Field ℕ
@@ -95,7 +99,9 @@ package_fields_at file bytes = do
         devices = devices.0;
         images = images.0;
         file = file;
-      }, images.1))
+      },
+      images.1,
+    ))
 
 -- whether an image stands in a file of so many bytes, behind a header of so many; and whether each does
 abbrev pub is_placed : ℕ → ℕ → Image → Bool

@@ -36,12 +36,12 @@ impl<'a> Model for Package<'a> {
     ghost Value = { Package };
 
     ghost view = { λ p. record {
-        release = p.release.now;
-        applicable_bytes = p.applicable_bytes;
-        version = p.version;
-        devices = p.devices;
-        images = p.images;
-        file = p.file.now;
+      release = p.release.now;
+      applicable_bytes = p.applicable_bytes;
+      version = p.version;
+      devices = p.devices;
+      images = p.images;
+      file = p.file.now;
     } };
 }
 

@@ -25,7 +25,6 @@ impl<'a> Model for Descriptor<'a> {
 }
 
 impl<'a> Descriptor<'a> {
-
     /// Its type: 0 PCI vendor, 1 IANA enterprise, 2 UUID, for example. Any number is read.
     pub fn kind(&self) -> u16
         ensures { result ≡ self.now.kind }

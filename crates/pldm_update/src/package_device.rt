@@ -26,11 +26,11 @@ impl<'a> Model for DeviceRecord<'a> {
     ghost Value = { Device };
 
     ghost view = { λ d. record {
-        option_flags = d.option_flags;
-        version = d.version;
-        applicable = d.applicable.now;
-        descriptors = d.descriptors;
-        package_data = d.package_data.now;
+      option_flags = d.option_flags;
+      version = d.version;
+      applicable = d.applicable.now;
+      descriptors = d.descriptors;
+      package_data = d.package_data.now;
     } };
 }
 
@@ -138,10 +138,7 @@ impl<'a> Iterator for DeviceRecords<'a> {
 
 /// A record of devices, which says itself how long it is.
 #[tactic(auto, unfolding(crate::specs::PackageFields::and_then, crate::specs::PackageFields::refused, crate::specs::PackageReading::device_at))]
-fn device_in(
-    applicable_bytes: u16,
-    bytes: &[u8],
-) -> Result<(DeviceRecord<'_>, &[u8]), PackageFault>
+fn device_in(applicable_bytes: u16, bytes: &[u8]) -> Result<(DeviceRecord<'_>, &[u8]), PackageFault>
     ensures { Gives (λ x. (x.0, x.1.now)) result (device_at applicable_bytes bytes.now) }
 {
     let (size, rest) = u16_in(bytes)?;

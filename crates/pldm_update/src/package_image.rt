@@ -29,14 +29,14 @@ impl<'a> Model for ImageRecord<'a> {
     ghost Value = { Image };
 
     ghost view = { λ i. record {
-        classification = i.classification;
-        identifier = i.identifier;
-        comparison_stamp = i.comparison_stamp;
-        options = i.options;
-        activation_methods = i.activation_methods;
-        offset = i.offset;
-        size = i.size;
-        version = i.version;
+      classification = i.classification;
+      identifier = i.identifier;
+      comparison_stamp = i.comparison_stamp;
+      options = i.options;
+      activation_methods = i.activation_methods;
+      offset = i.offset;
+      size = i.size;
+      version = i.version;
     } };
 }
 
@@ -208,10 +208,7 @@ fn image_in(bytes: &[u8]) -> Result<(ImageRecord<'_>, &[u8]), PackageFault>
 }
 
 /// What a package says of so many images, one after another.
-pub(crate) fn images_in(
-    count: u16,
-    bytes: &[u8],
-) -> Result<(ImageRecords<'_>, &[u8]), PackageFault>
+pub(crate) fn images_in(count: u16, bytes: &[u8]) -> Result<(ImageRecords<'_>, &[u8]), PackageFault>
     ensures { Gives (λ x. (x.0, x.1.now)) result (many_at image_at count bytes.now) }
 {
     let mut rest = bytes;

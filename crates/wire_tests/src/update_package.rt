@@ -27,7 +27,12 @@ fn package_is_read(rt: HostRuntime) {
     let device = devices.next().expect(&rt, "a device");
     expect_eq(&rt, device.option_flags(), 1, "flags");
     expect_eq(&rt, device.applicable(), [1].as_slice(), "bits");
-    expect_eq(&rt, device.version().text(), b"s1".as_slice(), "set version");
+    expect_eq(
+        &rt,
+        device.version().text(),
+        b"s1".as_slice(),
+        "set version",
+    );
     expect_eq(&rt, device.package_data(), b"abc".as_slice(), "data");
     let mut descriptors = device.descriptors();
     let first = descriptors.next().expect(&rt, "the initial descriptor");
