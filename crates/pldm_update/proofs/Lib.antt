@@ -10,3 +10,7 @@ pub mod OfferedImage
 mod AllApplied
 mod PieceParts
 mod Numbers
+mod ManyFields
+mod PackageSteps
+mod PackageParts
+mod PackagesRead

@@ -24,3 +24,7 @@ pub mod DeviceRequests
 pub mod ImagePieces
 pub mod AgentCalls
 pub mod AgentLaws
+pub mod PackageFields
+pub mod Packages
+pub mod PackageReading
+pub mod PackageLaws

@@ -3,6 +3,7 @@
 ghost use Rattle.pldm_update.specs.Laws.{AnswerReadBack, CommandReadBack, DataFits, OneAnswer, OneCommand, ValuesFound, ValuesReadBack, ValuesWritten, WrittenAnswerReadBack, WrittenCommandReadBack};
 ghost use Rattle.pldm_update.specs.DeviceLaws.{FlashIsInOrder, ImageIsTheOffered, OneAgentAtATime, PiecesAreOwn, VerifiedIsWhole};
 ghost use Rattle.pldm_update.specs.AgentLaws.{ActivatesWhatWasApplied};
+ghost use Rattle.pldm_update.specs.PackageLaws.{OnePackage, PackageReadBack};
 
 /// Of every layout: the values that stand in data are read from it, what is read from data stands in it, and what
 /// values are written as has them in it. So what is written is read back, and no data has two lists of values.
@@ -73,4 +74,10 @@ pub fn verified_is_whole()
 /// applied, and only so does the update end well.
 pub fn activates_what_was_applied()
     ensures { ActivatesWhatWasApplied }
+{}
+
+/// The package that a file has is read from it, and no file has two.
+pub fn packages_are_read_back()
+    ensures reads_back { PackageReadBack }
+    ensures one { OnePackage }
 {}
