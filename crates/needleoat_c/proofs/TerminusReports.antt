@@ -47,7 +47,7 @@ module _ (old new : TerminusView) (now : ℕ) (bytes reply : List ℕ) where
   came : (b : Bool) (step : BusStep) → HasComeTo b old now bytes new reply (Answering step)
       → (b ≡ false) × (HasCome old.answering now bytes new.answering reply step × IsFollowed new.answering.endpoint.end.own old.answering.endpoint.end.own now old.asking new.asking)
   came true step h = absurd h
-  came false step h = (refl, (h.0, h.1.1))
+  came false step h = (refl, (h.0, h.2))
 
   come_to : (whole : TerminusStep) (step : BusStep) → whole ≡ Answering step → HasComeTo (comes_to_asking bytes old) old now bytes new reply whole
       → (comes_to_asking bytes old ≡ false) × (HasCome old.answering now bytes new.answering reply step × IsFollowed new.answering.endpoint.end.own old.answering.endpoint.end.own now old.asking new.asking)
