@@ -1,5 +1,5 @@
 -- What is reported of a packet that came to the answering end of a terminus is what became of it.
-use Rattle.std.proofs.Common.{◌≡◌, ℕ, ◌≤◌, ◌==◌, Bool, true, false, List, Option, None, Some, MatchBool, refl, sym, ap, subst, ◌∙◌, arith}
+use Rattle.std.proofs.Common.{◌≡◌, ℕ, ◌≤◌, ◌==◌, Bool, true, false, List, Option, None, Some, MatchBool, refl, sym, subst, arith}
 use Rattle.std.proofs.lemmas.Bool.{ne_eqb}
 use Rattle.bus_endpoint.specs.BusViews.{BusView}
 use Rattle.bus_endpoint.specs.Coming.{HasCome, IsInStep, IsStep, control_answer, dropped_for, eid_after}

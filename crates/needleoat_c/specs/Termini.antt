@@ -24,7 +24,8 @@ use Rattle.needleoat_c.specs.Settings as settings
 use Rattle.needleoat_c.specs.EndpointHandles as endpoint
 use Rattle.needleoat_c.specs.TerminusHandles.{Inside}
 use Rattle.needleoat_c.specs.declared.kinds.TheConstants.{HALF_ANSWERING, HALF_ASKING, STEP_REFUSED}
-use Rattle.needleoat_c.specs.declared.refusals.TheConstants.{ALREADY_THERE, BAD_MOMENT, NOTHING_THERE, NO_EID, NO_MEMORY, OUT_OF_RANGE, RESTING}
+use Rattle.needleoat_c.specs.declared.refusals.TheConstants.{ALREADY_THERE, BAD_MOMENT, NOTHING_THERE, NO_EID}
+use Rattle.needleoat_c.specs.declared.refusals.TheConstants.{NO_MEMORY, OUT_OF_RANGE, RESTING}
 use Rattle.needleoat_c.specs.declared.reports.ComingReport.{ComingReport}
 use Rattle.needleoat_c.specs.declared.reports.DueReport.{DueReport}
 use Rattle.needleoat_c.specs.declared.reports.HandleFields.{HandleFields}

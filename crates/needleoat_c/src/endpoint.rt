@@ -215,7 +215,11 @@ pub(crate) fn refusal_number(refusal: ReceiveRefusal) -> u8
 }
 
 /// Puts the fields of the command that is pending under this handle.
-pub(crate) fn put_command(endpoint: &BusEndpoint, handle: &CommandHandle, fields: &mut CommandFields)
+pub(crate) fn put_command(
+    endpoint: &BusEndpoint,
+    handle: &CommandHandle,
+    fields: &mut CommandFields,
+)
     requires { IsOfCommand (pending_at endpoint.now.endpoint.pending handle.now) }
     ensures { AreOf (pending_at endpoint.now.endpoint.pending handle.now) fields.new }
 {
@@ -322,7 +326,11 @@ pub(crate) fn report(
 /// says why they are none.
 // Not inlined: the stack that making an answer needs is free again before the answer is handed in.
 #[inline(never)]
-pub(crate) fn put_given(command: &Command, fields: &AnswerFields, given: &mut Answer) -> Result<(), u8>
+pub(crate) fn put_given(
+    command: &Command,
+    fields: &AnswerFields,
+    given: &mut Answer,
+) -> Result<(), u8>
     ensures answer { OnOk result (given_to command.now fields.now ≡ Ok given.new) }
     ensures kind { OnOk result (IsAnswerTo (kind_of command.now) given.new) }
     ensures number { IfErr result (λ number. given_to command.now fields.now ≡ Err number) }

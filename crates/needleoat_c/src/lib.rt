@@ -24,7 +24,8 @@ pub use endpoint_calls::{
 };
 pub use endpoint_handle::{EndpointForC, EndpointHandle, HiddenEndpoint};
 pub use reports::{
-    ComingReport, DueReport, HandleFields, OpeningReport, PacketReport, RequestFields, StatusReport, StepReport,
+    ComingReport, DueReport, HandleFields, OpeningReport, PacketReport, RequestFields,
+    StatusReport, StepReport,
 };
 pub use requester_calls::{
     needleoat_requester_free, needleoat_requester_new, needleoat_requester_next_deadline,

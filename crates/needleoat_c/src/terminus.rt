@@ -2,29 +2,24 @@
 
 ghost use Rattle.std.specs.Prelude.{◌≡◌, ◌≢◌, ◌≤◌, Some, IfOk, IfSome, is_some};
 ghost use Rattle.pldm_endpoint.specs.TwoSteps.{held_in};
-ghost use Rattle.pldm_requester.specs.Slots.{held_of};
 ghost use Rattle.pldm_terminus.specs.Askings.{CameBefore};
 ghost use Rattle.needleoat_forms.specs.Written.{IsWritten};
 ghost use Rattle.needleoat_c.specs.Endpoints.{HasCommand, IsLeftByAnswer, IsLeftByResponse, answer_outcome, pending_under, response_outcome, with_packets};
-ghost use Rattle.needleoat_c.specs.Requesters.{MayNeedRoom, ReportsDeadline, ReportsProgress, asked_in, asked_with, holding, opened_by, packet_of, progress_of, ticked_by};
+ghost use Rattle.needleoat_c.specs.Requesters.{ReportsDeadline, ReportsProgress, asked_in, asked_with, holding, opened_by, packet_of, progress_of, ticked_by};
 ghost use Rattle.needleoat_c.specs.Settings.{IsSetup, first_eid, keeping_in};
 ghost use Rattle.needleoat_c.specs.Termini.{IsAskingLeft, IsGivenTo, IsLeftByComing, IsLeftByRestart, IsTerminus, ReportsComingIn, ReportsDue, ReportsOpeningIn, comes_to_asking, fault_number, is_next, refusal_at};
 
-use crate::endpoint;
 use crate::kinds::STATUS_UNKNOWN;
 use crate::refusals::{
-    BAD_MOMENT, NO_COMMAND, NO_EID, NO_MEMORY, NOT_ITS_ANSWER, NOT_PENDING, OUT_OF_RANGE, RESTING,
+    BAD_MOMENT, NO_COMMAND, NO_EID, NOT_ITS_ANSWER, NOT_PENDING, OUT_OF_RANGE, RESTING,
 };
-use crate::reports::{
-    ComingReport, DueReport, HandleFields, OpeningReport, StatusReport,
-};
-use crate::requester;
+use crate::reports::{ComingReport, DueReport, HandleFields, OpeningReport, StatusReport};
 use crate::settings::{EndpointSettings, Peer};
+use crate::{endpoint, requester};
 use bus_endpoint::BusStep;
 use mctp_packet::{Body, Eid, MAX_MESSAGE_BYTES, MAX_PACKET_BYTES, MAX_PACKETS, Memory, Moment};
 use needleoat_forms::{AnswerFields, CommandFields};
 use pldm_endpoint::{AnswerRefusal, MessageStep};
-use pldm_requester::MAX_REMEMBERED;
 use pldm_responder::{MessageOutcome, ResponderSettings};
 use pldm_terminus::{AskFault, Terminus, TerminusStep, is_answer};
 use pldm_wire::Answer;

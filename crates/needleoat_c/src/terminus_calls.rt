@@ -6,15 +6,14 @@ ghost use Rattle.needleoat_c.specs.Endpoints.{HasCommand, HasRequest, IsLeftByAn
 ghost use Rattle.needleoat_c.specs.Requesters.{ReportsDeadline, ReportsProgress, asked_in, asked_with, holding, opened_by, packet_of, progress_of, ticked_by};
 ghost use Rattle.needleoat_c.specs.Termini.{IsAskingLeft, IsGivenTo, IsLeft, IsLeftByComing, IsLeftByRestart, IsNew, IsUpheld, ReportsComing, ReportsDue, ReportsMaking, ReportsOpening, answering_of, pending, refusal_at, requester_of};
 
-use crate::endpoint;
 use crate::kinds::{STATUS_UNKNOWN, STEP_REFUSED};
 use crate::refusals::{ALREADY_THERE, BAD_MOMENT, NO_MEMORY, NOTHING_THERE, OUT_OF_RANGE};
 use crate::reports::{
     ComingReport, DueReport, HandleFields, OpeningReport, RequestFields, StatusReport, StepReport,
 };
 use crate::settings::{EndpointSettings, PeerSettings};
-use crate::terminus;
 use crate::terminus_handle::TerminusForC;
+use crate::{endpoint, terminus};
 use mctp_packet::{Body, MAX_MESSAGE_BYTES, MAX_PACKET_BYTES, MAX_PACKETS, Moment};
 use needleoat_forms::{AnswerFields, CommandFields};
 use std::alloc::Global;
