@@ -19,10 +19,10 @@
  *
  * With the two ends of libneedleoat_c.a also:
  *
- *   - A handle begins as NEEDLEOAT_ENDPOINT_NONE or NEEDLEOAT_REQUESTER_NONE. The caller reads and
- *     writes no field of it and uses no copy of it; it may stand anywhere, and may be moved between
- *     two calls. One that is forgotten leaks: end with needleoat_endpoint_free or
- *     needleoat_requester_free.
+ *   - A handle begins as NEEDLEOAT_ENDPOINT_NONE, NEEDLEOAT_REQUESTER_NONE or NEEDLEOAT_TERMINUS_NONE. The
+ *     caller reads and writes no field of it and uses no copy of it; it may stand anywhere, and may be moved
+ *     between two calls. One that is forgotten leaks: end with needleoat_endpoint_free,
+ *     needleoat_requester_free or needleoat_terminus_free.
  *   - One call at a time with one handle. No call from a signal or interrupt handler, nor in the
  *     child of a fork of a process with threads.
  *   - Moments are milliseconds of one clock that never goes back, at most 4,000,000,000,000,000. A
@@ -732,7 +732,9 @@ enum needleoat_refusal {
     NEEDLEOAT_ID_IN_USE = 12,        /* the request 32 before was opened less than twice keep_ms ago */
     NEEDLEOAT_NOT_A_COMMAND = 13,    /* the bytes are no request that carries a command */
     NEEDLEOAT_TOO_MANY_SOURCES = 14, /* of a packet: as many sources have room for answers as may have */
-    NEEDLEOAT_TOO_MANY_OPEN_MESSAGES = 15 /* of a packet: it begins a message of several, and none may be open */
+    NEEDLEOAT_TOO_MANY_OPEN_MESSAGES = 15, /* of a packet: it begins a message of several, and none may be open */
+    NEEDLEOAT_NO_EID = 16,           /* of a terminus: it has no endpoint ID to ask from, or that of its peer */
+    NEEDLEOAT_RESTING = 17           /* of a terminus: it began to ask less than twice keep_ms ago */
 };
 
 /* ---- The answering end ----
@@ -1002,7 +1004,7 @@ uint8_t needleoat_requester_new(const struct needleoat_requester_settings *setti
 
 /* A request that was opened. Where `refusal` is not 0, the other fields have no meaning. */
 struct needleoat_opening {
-    uint8_t refusal;     /* 0, or the first of 3, 2, 13, 11, 12 and 1 of enum needleoat_refusal */
+    uint8_t refusal;     /* 0, or the first of 3, 2, 13, 6, 11, 12 and 1 of enum needleoat_refusal */
     uint8_t instance_id; /* 0 to 31 */
     uint8_t tag;         /* 0 to 7 */
     uint64_t number;     /* counted from 0 over all requests of this requester */
@@ -1014,6 +1016,17 @@ struct needleoat_opening {
  */
 struct needleoat_opening needleoat_requester_open(struct needleoat_requester *requester, uint64_t now_ms,
                                                   const uint8_t *request, uint64_t length);
+
+/*
+ * Opens a request of any PLDM type: of this type, 0 to 63, and this command, with this data, which is what follows the
+ * header of its message (DSP0240, "PLDM message fields"); at most 316 bytes. A type above 63 and longer data are refused
+ * with 6. All else is as in needleoat_requester_open; where the data has more than 60 bytes, the request has several
+ * packets (needleoat_requester_packet_at), and all are to be sent. The data of the response begins at byte 5 of the message that
+ * needleoat_requester_status writes.
+ */
+struct needleoat_opening needleoat_requester_open_request(struct needleoat_requester *requester, uint64_t now_ms,
+                                                          uint8_t pldm_type, uint8_t command, const uint8_t *data,
+                                                          uint64_t length);
 
 /* The requests that are due, by their numbers. */
 struct needleoat_due {
@@ -1057,11 +1070,16 @@ struct needleoat_receiving needleoat_requester_receive(struct needleoat_requeste
                                                        const uint8_t *packet, uint64_t length);
 
 /*
- * Writes the packet of a request to the front of `out`, and returns its length in bytes; 0, with `out` as
- * it was, where the request is not among the last 32. The packet is the same each time that it is sent.
+ * Writes the first packet of a request to the front of `out`, and returns its length in bytes; 0, with `out` as
+ * it was, where the request is not among the last 32. The packet is the same each time that it is sent. The request of
+ * a command has no other, and one of needleoat_requester_open_request none where its data has at most 60 bytes.
  */
 uint32_t needleoat_requester_packet(struct needleoat_requester *requester, uint64_t number,
                                     uint8_t out[NEEDLEOAT_PACKET_BYTES]);
+
+/* The same, of packet `index`, counted from 0: 0, with `out` as it was, also where the request has no such packet. */
+uint32_t needleoat_requester_packet_at(struct needleoat_requester *requester, uint64_t number, uint32_t index,
+                                       uint8_t out[NEEDLEOAT_PACKET_BYTES]);
 
 /* How a request stands. */
 enum needleoat_status_kind {
@@ -1085,6 +1103,107 @@ struct needleoat_status needleoat_requester_status(struct needleoat_requester *r
 
 /* Frees the requester, where there is one. The handle is then as NEEDLEOAT_REQUESTER_NONE. */
 void needleoat_requester_free(struct needleoat_requester *requester);
+
+/* ---- An end that answers and asks ----
+ *
+ * A terminus is an endpoint and a requester under one endpoint ID: it answers as an endpoint does, and asks one peer as
+ * a requester does. A packet with TO 0 is a part of an answer to it, and goes to its requester; each other packet goes to
+ * the answering end. A device that asks nothing needs none of it.
+ *
+ * Where a bus owner assigns another endpoint ID, and at a restart, the requester begins anew: its open requests are
+ * forgotten, and it opens none until twice the peer's `keep_ms` has passed. While the end has no endpoint ID, or that of
+ * its peer, it has no requester.
+ */
+struct needleoat_terminus {
+    uint64_t at; /* an address */
+    bool is_live;
+};
+#define NEEDLEOAT_TERMINUS_NONE {0, false}
+
+/* Whom a terminus asks, and how. Fill it by the names of its fields: later settings will be further fields. */
+struct needleoat_peer_settings {
+    uint8_t device;      /* the endpoint ID of the peer, 8 to 254 */
+    uint8_t tries;       /* how often a request is sent at most, 1 to 8 */
+    uint32_t keep_ms;    /* how long the peer keeps an answer for copies, 1 to 60,000 */
+    uint32_t timeout_ms; /* how long after it was sent a request is sent again, 1 or more */
+};
+
+/*
+ * Makes a terminus: 0, or enum needleoat_refusal: 7, else 6 where needleoat_endpoint_new refuses `settings` with 6, a
+ * setting of `peer` is out of its range, `peer->device` is the endpoint ID that it has at first, or `tries` times
+ * `timeout_ms` is above the peer's `keep_ms`; else 2 where a moment is past the last one; else 1. It opens no request
+ * before `rest_ms`: after a reset of the processor let that be `now_ms` and twice the peer's `keep_ms`.
+ */
+uint8_t needleoat_terminus_new(const struct needleoat_endpoint_settings *settings,
+                               const struct needleoat_peer_settings *peer, uint64_t now_ms, uint64_t rest_ms,
+                               struct needleoat_terminus *terminus);
+
+/* The half of a terminus that took a packet, or refused it. */
+enum needleoat_half {
+    NEEDLEOAT_HALF_ANSWERING = 0, /* what answers */
+    NEEDLEOAT_HALF_ASKING = 1     /* what asks */
+};
+
+/* What becomes of a packet at a terminus. */
+struct needleoat_coming {
+    uint8_t half;                         /* enum needleoat_half */
+    struct needleoat_step step;           /* ANSWERING: as from needleoat_endpoint_receive; else zeros */
+    struct needleoat_receiving receiving; /* ASKING: as from needleoat_requester_receive; else zeros */
+};
+
+/*
+ * Receives the bytes of a packet that came at a moment: those of an answer as needleoat_requester_receive does, where
+ * there is a requester, all others as needleoat_endpoint_receive does, with what that puts into `command` and `packets`.
+ * A moment may come next that is not before the last one of either half. Where nothing is behind the handle, the half is
+ * NEEDLEOAT_HALF_ANSWERING.
+ */
+struct needleoat_coming needleoat_terminus_receive(struct needleoat_terminus *terminus, uint64_t now_ms,
+                                                   const uint8_t *packet, uint64_t length,
+                                                   struct needleoat_command *command,
+                                                   uint8_t packets[NEEDLEOAT_PACKETS][NEEDLEOAT_PACKET_BYTES]);
+
+/* As needleoat_endpoint_answer, needleoat_endpoint_request and needleoat_endpoint_answer_bytes. */
+struct needleoat_step needleoat_terminus_answer(struct needleoat_terminus *terminus,
+                                                const struct needleoat_command_handle *handle,
+                                                const struct needleoat_answer *answer,
+                                                uint8_t packets[NEEDLEOAT_PACKETS][NEEDLEOAT_PACKET_BYTES]);
+bool needleoat_terminus_request(struct needleoat_terminus *terminus, const struct needleoat_command_handle *handle,
+                                struct needleoat_request *request);
+struct needleoat_step needleoat_terminus_answer_bytes(struct needleoat_terminus *terminus,
+                                                      const struct needleoat_command_handle *handle, uint8_t code,
+                                                      const uint8_t *data, uint64_t length,
+                                                      uint8_t packets[NEEDLEOAT_PACKETS][NEEDLEOAT_PACKET_BYTES]);
+
+/*
+ * As needleoat_requester_open and needleoat_requester_open_request, towards the peer: refused with 3, 2, 13 or 6, else
+ * with 16, 17, 11, 12 or 1 of enum needleoat_refusal. The number counts from 0 over all requests since the requester
+ * last began.
+ */
+struct needleoat_opening needleoat_terminus_open(struct needleoat_terminus *terminus, uint64_t now_ms,
+                                                 const uint8_t *request, uint64_t length);
+struct needleoat_opening needleoat_terminus_open_request(struct needleoat_terminus *terminus, uint64_t now_ms,
+                                                         uint8_t pldm_type, uint8_t command, const uint8_t *data,
+                                                         uint64_t length);
+
+/*
+ * As needleoat_requester_tick, needleoat_requester_next_deadline, needleoat_requester_packet_at and
+ * needleoat_requester_status. Where there is no requester, nothing is due and no request is remembered.
+ */
+uint8_t needleoat_terminus_tick(struct needleoat_terminus *terminus, uint64_t now_ms, struct needleoat_due *due);
+bool needleoat_terminus_next_deadline(struct needleoat_terminus *terminus, uint64_t *deadline_ms);
+uint32_t needleoat_terminus_packet(struct needleoat_terminus *terminus, uint64_t number, uint32_t index,
+                                   uint8_t out[NEEDLEOAT_PACKET_BYTES]);
+struct needleoat_status needleoat_terminus_status(struct needleoat_terminus *terminus, uint64_t number,
+                                                  uint8_t message[NEEDLEOAT_MESSAGE_BYTES]);
+
+/*
+ * Restarts both halves at a moment: 0, or 3 or 2 of enum needleoat_refusal. The answering end is as after
+ * needleoat_endpoint_restart, and the requester begins anew.
+ */
+uint8_t needleoat_terminus_restart(struct needleoat_terminus *terminus, uint64_t now_ms);
+
+/* Frees the terminus, where there is one. The handle is then as NEEDLEOAT_TERMINUS_NONE. */
+void needleoat_terminus_free(struct needleoat_terminus *terminus);
 
 /*
  * The memory that the library asks for; the head of this file says what these functions have to keep. `size`
@@ -1397,6 +1516,18 @@ NEEDLEOAT_AT(needleoat_receiving, number, 8);
 NEEDLEOAT_ASSERT(sizeof(struct needleoat_status) == 8);
 NEEDLEOAT_AT(needleoat_status, kind, 0);
 NEEDLEOAT_AT(needleoat_status, length, 4);
+NEEDLEOAT_ASSERT(sizeof(struct needleoat_terminus) == 16);
+NEEDLEOAT_AT(needleoat_terminus, at, 0);
+NEEDLEOAT_AT(needleoat_terminus, is_live, 8);
+NEEDLEOAT_ASSERT(sizeof(struct needleoat_peer_settings) == 12);
+NEEDLEOAT_AT(needleoat_peer_settings, device, 0);
+NEEDLEOAT_AT(needleoat_peer_settings, tries, 1);
+NEEDLEOAT_AT(needleoat_peer_settings, keep_ms, 4);
+NEEDLEOAT_AT(needleoat_peer_settings, timeout_ms, 8);
+NEEDLEOAT_ASSERT(sizeof(struct needleoat_coming) == 72);
+NEEDLEOAT_AT(needleoat_coming, half, 0);
+NEEDLEOAT_AT(needleoat_coming, step, 8);
+NEEDLEOAT_AT(needleoat_coming, receiving, 56);
 NEEDLEOAT_ASSERT(sizeof(struct needleoat_block) == 16);
 NEEDLEOAT_AT(needleoat_block, is_there, 0);
 NEEDLEOAT_AT(needleoat_block, at, 8);

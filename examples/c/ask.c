@@ -1,6 +1,6 @@
 /*
- * The requesting end: a request whose answer is lost, its retry, a second request, and one that is given up. The device
- * is a fan that keeps one answer. A call that had no memory is made again, at most three times: it changed nothing.
+ * The requesting end: a request whose answer is lost, its retry, a second request, one that is given up, and requests of
+ * another PLDM type by their bytes. The device is a fan that keeps one answer. A call that had no memory is made again, at most three times: it changed nothing.
  */
 #include "needleoat.h"
 #include <inttypes.h>
@@ -58,6 +58,13 @@ static uint8_t make(struct needleoat_requester *handle, uint8_t own) {
     return refusal;
 }
 
+static void print_opening(uint64_t now, struct needleoat_opening opening) {
+    if (opening.refusal != 0) printf("%" PRIu64 " not opened: %u\n", now, opening.refusal);
+    else
+        printf("%" PRIu64 " opened %" PRIu64 ", instance ID %u, tag %u\n", now, opening.number, opening.instance_id,
+               opening.tag);
+}
+
 static void open(uint64_t now, const struct needleoat_command *command) {
     uint8_t request[NEEDLEOAT_REQUEST_BYTES];
     uint32_t length = needleoat_command_write(command, request);
@@ -65,10 +72,16 @@ static void open(uint64_t now, const struct needleoat_command *command) {
     int tries = MEMORY_TRIES;
     do opening = needleoat_requester_open(&requester, now, request, length);
     while (opening.refusal == NEEDLEOAT_NO_MEMORY && --tries > 0);
-    if (opening.refusal != 0) printf("%" PRIu64 " not opened: %u\n", now, opening.refusal);
-    else
-        printf("%" PRIu64 " opened %" PRIu64 ", instance ID %u, tag %u\n", now, opening.number, opening.instance_id,
-               opening.tag);
+    print_opening(now, opening);
+}
+
+/* A request of any PLDM type, by its data. */
+static void open_request(uint64_t now, uint8_t pldm_type, uint8_t command, const uint8_t *data, size_t length) {
+    struct needleoat_opening opening;
+    int tries = MEMORY_TRIES;
+    do opening = needleoat_requester_open_request(&requester, now, pldm_type, command, data, length);
+    while (opening.refusal == NEEDLEOAT_NO_MEMORY && --tries > 0);
+    print_opening(now, opening);
 }
 
 static uint32_t send(uint64_t number) {
@@ -111,6 +124,31 @@ static void status(uint64_t number) {
     if (s.kind == NEEDLEOAT_STATUS_ANSWERED) print_bytes("response", response, s.length);
 }
 
+/*
+ * FRU data (PLDM type 4, DSP0257): GetFRURecordTable (0x02) with a transfer handle and an operation, its answer, in one
+ * part, and a request that takes all of a message. The bytes are those of the tables of the standards.
+ */
+static void ask_by_bytes(void) {
+    static const uint8_t first_part[] = {0, 0, 0, 0, 1};
+    static const uint8_t answer[] = {1, 8, 9, 0xc3, 1, 3, 4, 2, 0, 0, 0, 0, 0, 5, 'a', 'b'};
+    uint8_t data[NEEDLEOAT_REQUEST_DATA + 1];
+    for (size_t i = 0; i < sizeof data; i++) data[i] = (uint8_t)i;
+    open_request(1000, 64, 2, first_part, sizeof first_part);
+    open_request(1000, 4, 2, data, sizeof data);
+    open_request(1000, 4, 2, first_part, sizeof first_part);
+    send(3);
+    memcpy(kept_answer, answer, sizeof answer);
+    kept_answer_length = sizeof answer;
+    receive(1010);
+    status(3);
+    open_request(1020, 4, 1, data, NEEDLEOAT_REQUEST_DATA);
+    for (uint32_t i = 0; i <= NEEDLEOAT_PACKETS; i++) {
+        uint32_t length = needleoat_requester_packet_at(&requester, 4, i, packet);
+        printf("packet %u: %u bytes\n", (unsigned)i, (unsigned)length);
+        if (length != 0) print_bytes("it begins", packet, 8);
+    }
+}
+
 int main(void) {
     struct needleoat_command set = {.pldm_type = NEEDLEOAT_PLATFORM,
                                     .command = NEEDLEOAT_SET_NUMERIC_EFFECTER_VALUE,
@@ -149,6 +187,7 @@ int main(void) {
     tick(1000);
     status(2);
     status(3);
+    ask_by_bytes();
     needleoat_requester_free(&requester);
     status(2);
     tick(1001);

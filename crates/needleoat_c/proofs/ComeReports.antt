@@ -37,13 +37,17 @@ at_next : (next : Bool) (P Q : Type 0) → next ≡ true → P → MatchBool nex
 at_next true P Q is p = p
 at_next false P Q is p = let no : ⊥ = cc in absurd no
 
+pub come_allowed : (old new : BusView) (now : ℕ) (bytes reply : List ℕ) (step : BusStep) (r : StepReport) (rooms : List (List ℕ)) → HasCome old now bytes new reply step
+    → ReportsBus reply step r rooms → ReportsAllowed (refused_by old.endpoint now bytes) now bytes r rooms old
+come_allowed old new now bytes reply step r rooms come h =
+    allowed_by (refused_by old.endpoint now bytes) old now bytes r rooms come.received.accepted
+    (inl (taken_by old now bytes come.taken r rooms come.received.step_is
+    (come_by reply come.taken (control_answer old.control now (dropped_for come.taken) bytes) step r rooms come.step_is h)))
+
 pub come_reported : (old new : BusView) (now : ℕ) (bytes reply : List ℕ) (step : BusStep) (r : StepReport) (rooms : List (List ℕ)) → HasCome old now bytes new reply step → is_next now old ≡ true
     → ReportsBus reply step r rooms → ReportsPacketIn now bytes r rooms old
 come_reported old new now bytes reply step r rooms come next h =
-    at_next (is_next now old) _ _ next
-    (allowed_by (refused_by old.endpoint now bytes) old now bytes r rooms come.received.accepted
-    (inl (taken_by old now bytes come.taken r rooms come.received.step_is
-    (come_by reply come.taken (control_answer old.control now (dropped_for come.taken) bytes) step r rooms come.step_is h))))
+    at_next (is_next now old) _ _ next (come_allowed old new now bytes reply step r rooms come h)
 
 at_other : (refused : Bool) (P Q : Type 0) → refused ≡ false → Q → MatchBool refused P Q
 at_other true P Q is q = let no : ⊥ = cc in absurd no

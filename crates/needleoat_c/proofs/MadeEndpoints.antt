@@ -24,3 +24,8 @@ one_at_start s now endpoint control made is =
     subst (λ (c : Option ControlResponder). HaveOneEid endpoint c) (sym is)
     (by_answers s.answers_control (responder_in s) endpoint
     (sym (made.held.own ∙ started_own (eid_or_null (first_eid s)) (handed_in s) (keeping_in s) s.first_start now)))
+
+-- it has the endpoint ID that the settings say
+pub own_at_start : (s : EndpointSettings) (now : ℕ) (endpoint : EndpointView) → IsStarted s now endpoint → endpoint.end.own ≡ eid_or_null (first_eid s)
+own_at_start s now endpoint made =
+    made.held.own ∙ started_own (eid_or_null (first_eid s)) (handed_in s) (keeping_in s) s.first_start now

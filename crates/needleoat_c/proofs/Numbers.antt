@@ -1,12 +1,12 @@
 -- The numbers of kinds and of refusals, written a second time.
 use Rattle.std.proofs.Common.{◌≡◌, refl}
-use Rattle.needleoat_c.specs.declared.kinds.TheConstants.{BUSY_ALL, BUSY_SETS, RECEIVING_ANSWERED, RECEIVING_DROPPED, RECEIVING_PARTIAL}
+use Rattle.needleoat_c.specs.declared.kinds.TheConstants.{BUSY_ALL, BUSY_SETS, HALF_ANSWERING, HALF_ASKING, RECEIVING_ANSWERED, RECEIVING_DROPPED, RECEIVING_PARTIAL}
 use Rattle.needleoat_c.specs.declared.kinds.TheConstants.{RECEIVING_REFUSED, STATUS_ANSWERED, STATUS_GAVE_UP, STATUS_OPEN}
 use Rattle.needleoat_c.specs.declared.kinds.TheConstants.{STATUS_UNKNOWN, STEP_ANSWERED, STEP_DROPPED, STEP_PARTIAL}
 use Rattle.needleoat_c.specs.declared.kinds.TheConstants.{STEP_CONTROL, STEP_PERFORM, STEP_REFUSED, STEP_RESPOND}
 use Rattle.needleoat_c.specs.declared.refusals.TheConstants.{ALREADY_THERE, BAD_MOMENT, BEING_PERFORMED, ID_IN_USE, NOTHING_THERE}
-use Rattle.needleoat_c.specs.declared.refusals.TheConstants.{NO_COMMAND, NO_MEMORY, NOT_ITS_ANSWER, NOT_PENDING, OUT_OF_RANGE}
-use Rattle.needleoat_c.specs.declared.refusals.TheConstants.{OUT_OF_TURN, TAG_IN_USE, TOO_MANY_COMMANDS, TOO_MANY_OPEN_MESSAGES, TOO_MANY_SOURCES}
+use Rattle.needleoat_c.specs.declared.refusals.TheConstants.{NO_COMMAND, NO_EID, NO_MEMORY, NOT_ITS_ANSWER, NOT_PENDING, OUT_OF_RANGE}
+use Rattle.needleoat_c.specs.declared.refusals.TheConstants.{OUT_OF_TURN, RESTING, TAG_IN_USE, TOO_MANY_COMMANDS, TOO_MANY_OPEN_MESSAGES, TOO_MANY_SOURCES}
 
 busy_all : BUSY_ALL ≡ 0
 busy_all = refl
@@ -103,3 +103,15 @@ too_many_sources = refl
 
 too_many_open_messages : TOO_MANY_OPEN_MESSAGES ≡ 15
 too_many_open_messages = refl
+
+no_eid : NO_EID ≡ 16
+no_eid = refl
+
+resting : RESTING ≡ 17
+resting = refl
+
+half_answering : HALF_ANSWERING ≡ 0
+half_answering = refl
+
+half_asking : HALF_ASKING ≡ 1
+half_asking = refl

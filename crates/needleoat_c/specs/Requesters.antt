@@ -1,18 +1,21 @@
 -- The calls of a requester behind a handle: what they report to C, and what the handle holds then.
-use Rattle.std.specs.Prelude.{◌≡◌, ℕ, ◌<◌, ◌≤◌, ◌==◌, nat_le, ◌&&◌, Bool, true, false, MatchBool, List, length, take, slice_get}
+use Rattle.std.specs.Prelude.{◌≡◌, ℕ, ◌<◌, ◌≤◌, ◌==◌, nat_le, nat_lt, ◌&&◌, Bool, true, false, MatchBool, List, length, take, slice_get}
 use Rattle.std.specs.Prelude.{Option, Some, None, IsSome, option_map, option_and_then, Result, Ok, Err, ◌⊎◌, if◌then◌else◌}
 use Rattle.mctp_packet.specs.Ids.{IsEid, IsKeep}
 use Rattle.mctp_packet.specs.Reasons.{number_of}
 use Rattle.mctp_packet.specs.declared.TheConstants.{MAX_MOMENT, MAX_MESSAGE_BYTES, MAX_PACKET_BYTES}
 use Rattle.mctp_packet.specs.declared.reason.Reason.{Reason}
 use Rattle.pldm_wire.specs.CommandReading.{command_of}
+use Rattle.pldm_wire.specs.Kinds.{of_type}
 use Rattle.pldm_wire.specs.Requests.{Request, request_of}
 use Rattle.pldm_wire.specs.declared.assigned.TheConstants.{INSTANCE_IDS}
 use Rattle.pldm_wire.specs.declared.command.Command.{Command}
+use Rattle.pldm_wire.specs.declared.limits.TheConstants.{MAX_REQUEST_DATA}
+use Rattle.pldm_requester.specs.Asks.{Ask, ask_for, ask_of}
 use Rattle.pldm_requester.specs.Courses.{Progress, Waiting, Answered, GaveUp}
 use Rattle.pldm_requester.specs.Deadlines.{IsDeadline}
 use Rattle.pldm_requester.specs.Slots.{held_of}
-use Rattle.pldm_requester.specs.Steps.{RequesterState, IsHeld, Memo, again_at, given_up_at, got_at, opened_held, opening_answer, paced_at_first}
+use Rattle.pldm_requester.specs.Steps.{RequesterState, IsHeld, Memo, again_at, given_up_at, got_at, opened_with, opening_answer, paced_at_first}
 use Rattle.pldm_requester.specs.Steps.{received_held, ticked_held}
 use Rattle.pldm_requester.specs.Pacing.{setting_fault}
 use Rattle.pldm_requester.specs.declared.results.Got.{Got}
@@ -104,6 +107,21 @@ command_read (Err reason) = None
 abbrev pub command_in : List ℕ → Option Command
 command_in message = command_read (request_of message)
 
+-- what it asks so, or why it asks nothing
+
+abbrev pub ask_or_none : Option Command → Result Ask ℕ
+ask_or_none None = Err NO_COMMAND
+ask_or_none (Some command) = Ok (ask_of command)
+
+abbrev pub asked_in : List ℕ → Result Ask ℕ
+asked_in message = ask_or_none (command_in message)
+
+-- what a type and a command ask with data: a type has six bits, and a message has room for so much data
+abbrev pub asked_with : ℕ → ℕ → List ℕ → Result Ask ℕ
+asked_with pldm_type command bytes =
+    if nat_lt pldm_type 64 && nat_le (length bytes) MAX_REQUEST_DATA then Ok (ask_for (of_type pldm_type command) bytes)
+    else Err OUT_OF_RANGE
+
 -- the request that is opened, where there is memory, or why none is
 
 abbrev pub fault_number : OpenFault → ℕ
@@ -115,16 +133,16 @@ abbrev pub opened_or_number : Result Opened OpenFault → Result Opened ℕ
 opened_or_number (Ok opened) = Ok opened
 opened_or_number (Err fault) = Err (fault_number fault)
 
-abbrev pub opening_of : Option Command → ℕ → RequesterState → Result Opened ℕ
-opening_of None now held = Err NO_COMMAND
-opening_of (Some command) now held = opened_or_number (opening_answer held now)
+abbrev pub opening_of : Result Ask ℕ → ℕ → RequesterState → Result Opened ℕ
+opening_of (Err number) now held = Err number
+opening_of (Ok ask) now held = opened_or_number (opening_answer held now)
 
-abbrev pub opening_in : ℕ → List ℕ → RequesterState → Result Opened ℕ
-opening_in now request held = if is_next now held then opening_of (command_in request) now held else Err BAD_MOMENT
+abbrev pub opening_in : ℕ → Result Ask ℕ → RequesterState → Result Opened ℕ
+opening_in now asked held = if is_next now held then opening_of asked now held else Err BAD_MOMENT
 
-abbrev pub opening_at : ℕ → List ℕ → Option RequesterState → Result Opened ℕ
-opening_at now request None = Err NOTHING_THERE
-opening_at now request (Some held) = opening_in now request held
+abbrev pub opening_at : ℕ → Result Ask ℕ → Option RequesterState → Result Opened ℕ
+opening_at now asked None = Err NOTHING_THERE
+opening_at now asked (Some held) = opening_in now asked held
 
 -- the fields of an opened request
 pub record ReportsOpened (opened : Opened) (r : OpeningReport) : Type 0 where
@@ -143,12 +161,12 @@ abbrev pub MayNeedRoom : ℕ → Option RequesterState → Type 0
 MayNeedRoom most None = ⊥
 MayNeedRoom most (Some held) = held.count < most
 
-abbrev pub with_opened : ℕ → Option Command → RequesterState → RequesterState
-with_opened now None held = held
-with_opened now (Some command) held = opened_held held now command
+abbrev pub with_opened : ℕ → Result Ask ℕ → RequesterState → RequesterState
+with_opened now (Err number) held = held
+with_opened now (Ok ask) held = opened_with held now ask
 
-abbrev pub opened_by : ℕ → List ℕ → ℕ → RequesterState → RequesterState
-opened_by now request refusal held = if refusal == 0 then with_opened now (command_in request) held else held
+abbrev pub opened_by : ℕ → Result Ask ℕ → ℕ → RequesterState → RequesterState
+opened_by now asked refusal held = if refusal == 0 then with_opened now asked held else held
 
 -- ---- ticks ----
 
@@ -209,11 +227,11 @@ fitting most bytes = if nat_le (length bytes) most then Some bytes else None
 abbrev pub memo_of : ℕ → Option RequesterState → Option Memo
 memo_of number held = option_and_then (λ (h : RequesterState). h.remembered number) held
 
--- the packet of a request that is remembered: a request is one packet
-abbrev pub packet_of : ℕ → Option RequesterState → Option (List ℕ)
-packet_of number held =
+-- a packet of a request that is remembered, counted from 0: a request of a command is one packet
+abbrev pub packet_of : ℕ → ℕ → Option RequesterState → Option (List ℕ)
+packet_of number place held =
     option_and_then (fitting MAX_PACKET_BYTES)
-    (option_and_then (λ packets. slice_get packets 0)
+    (option_and_then (λ packets. slice_get packets place)
     (option_map (λ (memo : Memo). memo.packets) (memo_of number held)))
 
 -- how a request stands, and its answer in front of the room

@@ -33,11 +33,8 @@ use pldm_responder::{Bounds, MessageOutcome, ResponderSettings};
 use pldm_wire::{Answer, Command, INSTANCE_IDS};
 use std::alloc::Global;
 
-/// A new endpoint with these settings, in a place of its own. `own` is its endpoint ID at first, and `keeping` is how
-/// it keeps answers, both as the settings say. At any start but the first it is busy for the keeping time. What answers
-/// its control messages, where they are answered, has a place too; where there is no memory for one of the two, neither
-/// is kept.
-#[tactic(auto, using(crate::proofs::MadeEndpoints::one_at_start))]
+/// A new endpoint with these settings, in a place of its own, as [`made`] makes it. Where there is no memory for its
+/// place, it is not kept.
 pub(crate) fn start(
     alloc: Global,
     own: Option<Eid>,
@@ -50,12 +47,32 @@ pub(crate) fn start(
     requires keeping { keeping ≡ keeping_in settings.now }
     ensures { IfOk result (λ made. IsMade settings.now now made.value) }
 {
+    let made = made(alloc, own, keeping, settings, now)?;
+    Ok(Box::new(alloc, made)?)
+}
+
+/// A new endpoint with these settings. `own` is its endpoint ID at first, and `keeping` is how it keeps answers, both
+/// as the settings say. At any start but the first it is busy for the keeping time. What answers its control messages,
+/// where they are answered, has a place of its own; where there is no memory for it, nothing is kept.
+#[tactic(auto, using(crate::proofs::MadeEndpoints::one_at_start))]
+pub(crate) fn made(
+    alloc: Global,
+    own: Option<Eid>,
+    keeping: ResponderSettings,
+    settings: &EndpointSettings,
+    now: Moment,
+) -> Result<BusEndpoint, Memory>
+    requires setup { IsSetup settings.now }
+    requires own { own ≡ first_eid settings.now }
+    requires keeping { keeping ≡ keeping_in settings.now }
+    ensures { IfOk result (λ made. IsMade settings.now now made) }
+{
     let control = settings.control();
     let endpoint = started(alloc, own, keeping, settings, now);
     let Some(made) = BusEndpoint::new(alloc, endpoint, control)? else {
         unreachable!(); // both have one endpoint ID
     };
-    Ok(Box::new(alloc, made)?)
+    Ok(made)
 }
 
 /// The endpoint without what answers its control messages.
@@ -86,7 +103,7 @@ fn started(
 }
 
 /// The moment, where it may come next.
-fn next_moment(endpoint: &BusEndpoint, now_ms: u64) -> Option<Moment>
+pub(crate) fn next_moment(endpoint: &BusEndpoint, now_ms: u64) -> Option<Moment>
     ensures some { is_some result ≡ is_next now_ms endpoint.now }
     ensures value { IfSome result (λ now. now ≡ now_ms) }
     ensures later { IfSome result (λ now. (held_in endpoint.now.endpoint).last ≤ now) }
@@ -139,7 +156,7 @@ pub(crate) fn receive(
 }
 
 /// The report of what becomes of a packet as a message of PLDM, with the packets of `reply`, the message that answers.
-fn step_report(
+pub(crate) fn step_report(
     step: &MessageStep,
     reply: &Body,
     packets: &mut [[u8; MAX_PACKET_BYTES]; MAX_PACKETS],
@@ -156,7 +173,7 @@ fn step_report(
 }
 
 /// The report of a packet that answers a control message.
-fn control_report(
+pub(crate) fn control_report(
     answer: &ControlPacket,
     packets: &mut [[u8; MAX_PACKET_BYTES]; MAX_PACKETS],
 ) -> StepReport
@@ -184,7 +201,7 @@ fn put_front(packet: &[u8], room: &mut [u8; MAX_PACKET_BYTES]) -> u32
 }
 
 /// The number that says why a packet was refused.
-fn refusal_number(refusal: ReceiveRefusal) -> u8
+pub(crate) fn refusal_number(refusal: ReceiveRefusal) -> u8
     ensures { result ≡ number_of_refusal refusal }
 {
     match refusal {
@@ -198,7 +215,11 @@ fn refusal_number(refusal: ReceiveRefusal) -> u8
 }
 
 /// Puts the fields of the command that is pending under this handle.
-fn put_command(endpoint: &BusEndpoint, handle: &CommandHandle, fields: &mut CommandFields)
+pub(crate) fn put_command(
+    endpoint: &BusEndpoint,
+    handle: &CommandHandle,
+    fields: &mut CommandFields,
+)
     requires { IsOfCommand (pending_at endpoint.now.endpoint.pending handle.now) }
     ensures { AreOf (pending_at endpoint.now.endpoint.pending handle.now) fields.new }
 {
@@ -234,7 +255,7 @@ pub(crate) fn answer(
 }
 
 /// Why there is no command to be answered under this handle: nothing is pending there, or a request that was handed on.
-fn unanswered(endpoint: &BusEndpoint, handle: &CommandHandle) -> u8
+pub(crate) fn unanswered(endpoint: &BusEndpoint, handle: &CommandHandle) -> u8
     ensures { result ≡ unanswered (pending_at endpoint.now.endpoint.pending handle.now) }
 {
     match endpoint.endpoint().request(handle) {
@@ -305,7 +326,11 @@ pub(crate) fn report(
 /// says why they are none.
 // Not inlined: the stack that making an answer needs is free again before the answer is handed in.
 #[inline(never)]
-fn put_given(command: &Command, fields: &AnswerFields, given: &mut Answer) -> Result<(), u8>
+pub(crate) fn put_given(
+    command: &Command,
+    fields: &AnswerFields,
+    given: &mut Answer,
+) -> Result<(), u8>
     ensures answer { OnOk result (given_to command.now fields.now ≡ Ok given.new) }
     ensures kind { OnOk result (IsAnswerTo (kind_of command.now) given.new) }
     ensures number { IfErr result (λ number. given_to command.now fields.now ≡ Err number) }

@@ -50,3 +50,9 @@ pub const STATUS_ANSWERED: u8 = 2;
 
 /// The request was given up.
 pub const STATUS_GAVE_UP: u8 = 3;
+
+/// The answering end took the packet, or refused it.
+pub const HALF_ANSWERING: u8 = 0;
+
+/// The requester took the packet, or refused it.
+pub const HALF_ASKING: u8 = 1;

@@ -1,4 +1,4 @@
-//! Both ends of PLDM over MCTP for C, each behind a handle of two words: `include/needleoat.h`
+//! Both ends of PLDM over MCTP for C, and one that answers and asks, each behind a handle of two words: `include/needleoat.h`
 //! declares these calls.
 #![tactic(auto)]
 
@@ -13,6 +13,9 @@ mod requester;
 mod requester_calls;
 mod requester_handle;
 mod settings;
+mod terminus;
+mod terminus_calls;
+mod terminus_handle;
 
 pub use endpoint_calls::{
     needleoat_endpoint_answer, needleoat_endpoint_answer_bytes, needleoat_endpoint_eid,
@@ -21,12 +24,22 @@ pub use endpoint_calls::{
 };
 pub use endpoint_handle::{EndpointForC, EndpointHandle, HiddenEndpoint};
 pub use reports::{
-    DueReport, HandleFields, OpeningReport, PacketReport, RequestFields, StatusReport, StepReport,
+    ComingReport, DueReport, HandleFields, OpeningReport, PacketReport, RequestFields,
+    StatusReport, StepReport,
 };
 pub use requester_calls::{
     needleoat_requester_free, needleoat_requester_new, needleoat_requester_next_deadline,
-    needleoat_requester_open, needleoat_requester_packet, needleoat_requester_receive,
-    needleoat_requester_status, needleoat_requester_tick,
+    needleoat_requester_open, needleoat_requester_open_request, needleoat_requester_packet,
+    needleoat_requester_packet_at, needleoat_requester_receive, needleoat_requester_status,
+    needleoat_requester_tick,
 };
 pub use requester_handle::{HiddenRequester, RequesterForC, RequesterHandle};
-pub use settings::{EndpointSettings, RequesterSettings};
+pub use settings::{EndpointSettings, PeerSettings, RequesterSettings};
+pub use terminus_calls::{
+    needleoat_terminus_answer, needleoat_terminus_answer_bytes, needleoat_terminus_free,
+    needleoat_terminus_new, needleoat_terminus_next_deadline, needleoat_terminus_open,
+    needleoat_terminus_open_request, needleoat_terminus_packet, needleoat_terminus_receive,
+    needleoat_terminus_request, needleoat_terminus_restart, needleoat_terminus_status,
+    needleoat_terminus_tick,
+};
+pub use terminus_handle::{HiddenTerminus, TerminusForC, TerminusHandle};

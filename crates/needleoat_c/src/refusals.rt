@@ -44,3 +44,9 @@ pub const TOO_MANY_SOURCES: u8 = 14;
 
 /// As many messages of several packets are open at the endpoint as may be, and this would be one more.
 pub const TOO_MANY_OPEN_MESSAGES: u8 = 15;
+
+/// The end has no endpoint ID to ask from.
+pub const NO_EID: u8 = 16;
+
+/// Twice the keeping time has not passed yet since the end began to ask.
+pub const RESTING: u8 = 17;

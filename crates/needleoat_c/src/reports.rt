@@ -2,11 +2,14 @@
 
 ghost use Rattle.std.specs.Prelude.{◌≡◌, ◌≤◌, IfSome, false, is_some, length, true};
 ghost use Rattle.mctp_packet.specs.Refusals.{is_eid};
-ghost use Rattle.needleoat_c.specs.Endpoints.{AreRequest, HasNumbers, fields_of, handle_in, no_handle};
+ghost use Rattle.needleoat_c.specs.Requesters.{ReportsOpened, IsRefused as IsNotTaken};
+ghost use Rattle.needleoat_c.specs.Termini.{IsOfAnswering, IsOfAsking};
+ghost use Rattle.needleoat_c.specs.Endpoints.{AreRequest, HasNumbers, IsRefused, fields_of, handle_in, no_handle};
 
+use crate::kinds::{HALF_ANSWERING, HALF_ASKING, RECEIVING_REFUSED, STEP_REFUSED};
 use mctp_packet::{Eid, MAX_PACKETS};
 use pldm_endpoint::CommandHandle;
-use pldm_requester::MAX_OPEN;
+use pldm_requester::{MAX_OPEN, Opened};
 use pldm_wire::{MAX_REQUEST_DATA, RequestRef};
 
 /// A request that was opened, or why none was.
@@ -27,6 +30,18 @@ pub struct OpeningReport {
 const _: () = prove!(size_of::<OpeningReport>() == 16);
 
 impl OpeningReport {
+    /// This request was opened.
+    pub(crate) fn of(opened: Opened) -> OpeningReport
+        ensures { ReportsOpened opened result }
+    {
+        OpeningReport {
+            refusal: 0,
+            instance_id: opened.id,
+            tag: opened.tag.get(),
+            number: opened.number,
+        }
+    }
+
     /// No request was opened.
     pub(crate) fn refused(refusal: u8) -> OpeningReport
         ensures { result.refusal ≡ refusal }
@@ -210,6 +225,59 @@ impl StepReport {
         let mut report = StepReport::without(kind, 0);
         report.handle = HandleFields::of(handle);
         report
+    }
+}
+
+/// What becomes of a packet at an end that answers and asks.
+#[repr(C)]
+#[derive(Drop)]
+pub struct ComingReport {
+    /// Which half took it, or refused it, as `HALF_*`.
+    pub half: u8,
+    /// What the answering end made of it, where this half took it; else zeros.
+    pub step: StepReport,
+    /// What the requester made of it, where this half took it; else zeros.
+    pub receiving: PacketReport,
+}
+
+// As in `include/needleoat.h`.
+const _: () = prove!(size_of::<ComingReport>() == 72);
+
+impl ComingReport {
+    /// The answering end made this of it.
+    pub(crate) fn answering(step: StepReport) -> ComingReport
+        ensures of { IsOfAnswering result }
+        ensures step { result.step ≡ step }
+    {
+        ComingReport {
+            half: HALF_ANSWERING,
+            step,
+            receiving: PacketReport::without(RECEIVING_REFUSED, 0),
+        }
+    }
+
+    /// The requester made this of it.
+    pub(crate) fn asking(receiving: PacketReport) -> ComingReport
+        ensures of { IsOfAsking result }
+        ensures receiving { result.receiving ≡ receiving }
+    {
+        ComingReport {
+            half: HALF_ASKING,
+            step: StepReport::without(STEP_REFUSED, 0),
+            receiving,
+        }
+    }
+
+    /// The half that it came to refused it: the requester, or the answering end.
+    pub(crate) fn refused(is_asking: bool, number: u8) -> ComingReport
+        ensures asking { is_asking ≡ true → IsOfAsking result × IsNotTaken number result.receiving }
+        ensures answering { is_asking ≡ false → IsOfAnswering result × IsRefused number result.step }
+    {
+        if is_asking {
+            ComingReport::asking(PacketReport::without(RECEIVING_REFUSED, number))
+        } else {
+            ComingReport::answering(StepReport::without(STEP_REFUSED, number))
+        }
     }
 }
 

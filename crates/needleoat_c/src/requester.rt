@@ -1,22 +1,23 @@
 //! The work of each call on the requester behind a handle.
 
-ghost use Rattle.std.specs.Prelude.{◌≡◌, ◌≢◌, ◌<◌, ◌≤◌, Some, IfSome, is_some, length, option_and_then, option_map};
+ghost use Rattle.std.specs.Prelude.{◌≡◌, ◌≢◌, ◌<◌, ◌≤◌, ◌&&◌, nat_le, nat_lt, Some, IfSome, is_some, length, option_and_then, option_map};
 ghost use Rattle.std.specs.Option.{option_copied};
+ghost use Rattle.pldm_wire.specs.Kinds.{of_type};
 ghost use Rattle.pldm_requester.specs.Slots.{held_of};
 ghost use Rattle.pldm_requester.specs.RequestProgress.{progress_in_status};
 ghost use Rattle.pldm_requester.specs.Steps.{IsHeld};
 ghost use Rattle.needleoat_forms.specs.Written.{IsWritten};
-ghost use Rattle.needleoat_c.specs.Requesters.{AreInFront, ReportsDeadline, ReportsDue, ReportsGot, ReportsOpening, ReportsPacketIn, ReportsProgress, command_in, fault_number, fitting, is_next, opened_by, opening_in, packet_of, received_by, refusal_at, progress_of, ticked_by};
+ghost use Rattle.needleoat_c.specs.Requesters.{AreInFront, ReportsDeadline, ReportsDue, ReportsGot, ReportsOpening, ReportsPacketIn, ReportsProgress, asked_in, asked_with, command_in, fault_number, fitting, is_next, opened_by, opening_in, packet_of, received_by, refusal_at, progress_of, ticked_by};
 
 use crate::kinds::{
     RECEIVING_ANSWERED, RECEIVING_DROPPED, RECEIVING_PARTIAL, RECEIVING_REFUSED, STATUS_ANSWERED,
     STATUS_GAVE_UP, STATUS_OPEN, STATUS_UNKNOWN,
 };
-use crate::refusals::{BAD_MOMENT, ID_IN_USE, NO_COMMAND, NO_MEMORY, TAG_IN_USE};
+use crate::refusals::{BAD_MOMENT, ID_IN_USE, NO_COMMAND, NO_MEMORY, OUT_OF_RANGE, TAG_IN_USE};
 use crate::reports::{DueReport, OpeningReport, PacketReport, StatusReport};
 use mctp_packet::{MAX_MESSAGE_BYTES, MAX_PACKET_BYTES, Moment};
 use pldm_requester::{Got, MAX_OPEN, MAX_REMEMBERED, OpenFault, Requester, Status};
-use pldm_wire::{Command, read_command, read_request};
+use pldm_wire::{Command, Kind, MAX_REQUEST_DATA, read_command, read_request};
 
 /// The moment, where it may come next.
 fn next_moment(requester: &Requester, now_ms: u64) -> Option<Moment>
@@ -32,7 +33,7 @@ fn next_moment(requester: &Requester, now_ms: u64) -> Option<Moment>
 }
 
 /// The command that a message carries as a request.
-fn command_in(message: &[u8]) -> Option<Command>
+pub(crate) fn command_in(message: &[u8]) -> Option<Command>
     ensures { result ≡ command_in message.now }
 {
     let Ok(request) = read_request(message) else {
@@ -45,8 +46,9 @@ fn command_in(message: &[u8]) -> Option<Command>
 }
 
 /// The number of a fault of opening.
-fn fault_number(fault: OpenFault) -> u8
-    ensures { result ≡ fault_number fault }
+pub(crate) fn fault_number(fault: OpenFault) -> u8
+    ensures number { result ≡ fault_number fault }
+    ensures some { 1 ≤ result }
 {
     match fault {
         OpenFault::TagInUse => TAG_IN_USE,
@@ -57,10 +59,10 @@ fn fault_number(fault: OpenFault) -> u8
 
 /// Opens a request for the command that a message carries.
 pub(crate) fn open(requester: &mut Requester, now_ms: u64, request: &[u8]) -> OpeningReport
-    ensures report { ReportsOpening (opening_in now_ms request.now (held_of requester.old)) result }
+    ensures report { ReportsOpening (opening_in now_ms (asked_in request.now) (held_of requester.old)) result }
     ensures memory { result.refusal ≡ NO_MEMORY → (held_of requester.old).count < MAX_REMEMBERED }
     ensures held { IsHeld (held_of requester.new)
-        (opened_by now_ms request.now result.refusal (held_of requester.old)) }
+        (opened_by now_ms (asked_in request.now) result.refusal (held_of requester.old)) }
 {
     let Some(now) = next_moment(requester, now_ms) else {
         return OpeningReport::refused(BAD_MOMENT);
@@ -69,12 +71,45 @@ pub(crate) fn open(requester: &mut Requester, now_ms: u64, request: &[u8]) -> Op
         return OpeningReport::refused(NO_COMMAND);
     };
     match requester.open(now, &command) {
-        Ok(opened) => OpeningReport {
-            refusal: 0,
-            instance_id: opened.id,
-            tag: opened.tag.get(),
-            number: opened.number,
-        },
+        Ok(opened) => OpeningReport::of(opened),
+        Err(fault) => OpeningReport::refused(fault_number(fault)),
+    }
+}
+
+/// The type and command with these numbers, where a request of them can have so many bytes of data.
+pub(crate) fn kind_of(pldm_type: u8, command: u8, length: usize) -> Option<Kind>
+    ensures some { is_some result ≡ (nat_lt pldm_type 64 && nat_le length MAX_REQUEST_DATA) }
+    ensures value { IfSome result (λ kind. kind ≡ of_type pldm_type command) }
+    ensures few { IfSome result (λ kind. length ≤ MAX_REQUEST_DATA) }
+{
+    if pldm_type > 63 || length > MAX_REQUEST_DATA {
+        return None;
+    }
+    Some(Kind { pldm_type, command })
+}
+
+/// Opens a request of any PLDM type: of this type and command, with this data.
+pub(crate) fn open_request(
+    requester: &mut Requester,
+    now_ms: u64,
+    pldm_type: u8,
+    command: u8,
+    rest: &[u8],
+) -> OpeningReport
+    ensures report { ReportsOpening (opening_in now_ms (asked_with pldm_type command rest.now) (held_of requester.old))
+        result }
+    ensures memory { result.refusal ≡ NO_MEMORY → (held_of requester.old).count < MAX_REMEMBERED }
+    ensures held { IsHeld (held_of requester.new)
+        (opened_by now_ms (asked_with pldm_type command rest.now) result.refusal (held_of requester.old)) }
+{
+    let Some(now) = next_moment(requester, now_ms) else {
+        return OpeningReport::refused(BAD_MOMENT);
+    };
+    let Some(kind) = kind_of(pldm_type, command, rest.len()) else {
+        return OpeningReport::refused(OUT_OF_RANGE);
+    };
+    match requester.open_request(now, kind, rest) {
+        Ok(opened) => OpeningReport::of(opened),
         Err(fault) => OpeningReport::refused(fault_number(fault)),
     }
 }
@@ -110,7 +145,7 @@ pub(crate) fn next_deadline(requester: &Requester, deadline_ms: &mut u64) -> boo
 }
 
 /// Puts numbers in front, and returns how many there are.
-fn put_numbers(room: &mut [u64; MAX_OPEN], numbers: &[u64]) -> u32
+pub(crate) fn put_numbers(room: &mut [u64; MAX_OPEN], numbers: &[u64]) -> u32
     requires { length numbers.now ≤ MAX_OPEN }
     ensures { AreInFront numbers.now result room.new }
 {
@@ -133,7 +168,7 @@ pub(crate) fn receive(requester: &mut Requester, now_ms: u64, packet: &[u8]) -> 
 }
 
 /// The report of what becomes of a packet.
-fn report_of(got: Got) -> PacketReport
+pub(crate) fn report_of(got: Got) -> PacketReport
     ensures report { ReportsGot got result }
     ensures kind { 1 ≤ result.kind }
 {
@@ -148,12 +183,17 @@ fn report_of(got: Got) -> PacketReport
     }
 }
 
-/// Writes the packet of a request that is remembered, and returns its length, else 0.
-pub(crate) fn packet(requester: &Requester, number: u64, out: &mut [u8; MAX_PACKET_BYTES]) -> u32
-    ensures { IsWritten (packet_of number (Some (held_of requester.now))) result out.old out.new }
+/// Writes packet `index` of a request that is remembered, and returns its length, else 0.
+pub(crate) fn packet(
+    requester: &Requester,
+    number: u64,
+    index: u32,
+    out: &mut [u8; MAX_PACKET_BYTES],
+) -> u32
+    ensures { IsWritten (packet_of number index (Some (held_of requester.now))) result out.old out.new }
 {
     match requester.packets(number) {
-        Some(packets) => put_packet(packets.get(0), out),
+        Some(packets) => put_packet(packets.get(index as usize), out),
         None => 0,
     }
 }

@@ -2,7 +2,7 @@
 
 ghost use Rattle.std.specs.Prelude.{◌≡◌, ◌≢◌, false, true};
 ghost use Rattle.needleoat_forms.specs.Written.{IsWritten};
-ghost use Rattle.needleoat_c.specs.Requesters.{HoldsAfter, IsNew, IsUpheld, MayNeedRoom, ReportsDeadline, ReportsDue, ReportsMaking, ReportsOpening, ReportsPacket, ReportsProgress, holding, opened_by, opening_at, packet_of, received_by, refusal_at, progress_of, ticked_by, unchanged};
+ghost use Rattle.needleoat_c.specs.Requesters.{HoldsAfter, IsNew, IsUpheld, MayNeedRoom, ReportsDeadline, ReportsDue, ReportsMaking, ReportsOpening, ReportsPacket, ReportsProgress, asked_in, asked_with, holding, opened_by, opening_at, packet_of, received_by, refusal_at, progress_of, ticked_by, unchanged};
 
 use crate::kinds::{RECEIVING_REFUSED, STATUS_UNKNOWN};
 use crate::refusals::{ALREADY_THERE, NO_MEMORY, NOTHING_THERE, OUT_OF_RANGE};
@@ -67,9 +67,9 @@ pub extern "C" fn needleoat_requester_open(
 ) -> OpeningReport
     requires { IsUpheld requester.old }
     ensures upheld { IsUpheld requester.new }
-    ensures report { ReportsOpening (opening_at now_ms request.now (holding requester.old.handle.held)) result }
+    ensures report { ReportsOpening (opening_at now_ms (asked_in request.now) (holding requester.old.handle.held)) result }
     ensures memory { result.refusal ≡ NO_MEMORY → MayNeedRoom MAX_REMEMBERED (holding requester.old.handle.held) }
-    ensures held { HoldsAfter (opened_by now_ms request.now result.refusal)
+    ensures held { HoldsAfter (opened_by now_ms (asked_in request.now) result.refusal)
         requester.old.handle.held requester.new.handle.held }
 {
     if !requester.is_live {
@@ -77,6 +77,34 @@ pub extern "C" fn needleoat_requester_open(
     }
     let mut inside = requester.handle.take(alloc);
     let report = requester::open(&mut inside, now_ms, request);
+    requester.handle.put(inside);
+    report
+}
+
+/// Opens a request of any PLDM type: of this type, 0 to 63, and this command, with this data, at most 316 bytes. Its
+/// packets are to be sent then.
+#[unsafe(no_mangle)]
+pub extern "C" fn needleoat_requester_open_request(
+    alloc: Global,
+    requester: &mut RequesterForC,
+    now_ms: u64,
+    pldm_type: u8,
+    command: u8,
+    rest: &[u8],
+) -> OpeningReport
+    requires { IsUpheld requester.old }
+    ensures upheld { IsUpheld requester.new }
+    ensures report { ReportsOpening (opening_at now_ms (asked_with pldm_type command rest.now)
+        (holding requester.old.handle.held)) result }
+    ensures memory { result.refusal ≡ NO_MEMORY → MayNeedRoom MAX_REMEMBERED (holding requester.old.handle.held) }
+    ensures held { HoldsAfter (opened_by now_ms (asked_with pldm_type command rest.now) result.refusal)
+        requester.old.handle.held requester.new.handle.held }
+{
+    if !requester.is_live {
+        return OpeningReport::refused(NOTHING_THERE);
+    }
+    let mut inside = requester.handle.take(alloc);
+    let report = requester::open_request(&mut inside, now_ms, pldm_type, command, rest);
     requester.handle.put(inside);
     report
 }
@@ -151,7 +179,8 @@ pub extern "C" fn needleoat_requester_receive(
     report
 }
 
-/// Writes the packet of a request that is remembered, and returns its length in bytes, else 0.
+/// Writes the first packet of a request that is remembered, and returns its length in bytes, else 0. The request of a
+/// command has no other.
 #[unsafe(no_mangle)]
 pub extern "C" fn needleoat_requester_packet(
     alloc: Global,
@@ -161,14 +190,31 @@ pub extern "C" fn needleoat_requester_packet(
 ) -> u32
     requires { IsUpheld requester.old }
     ensures upheld { IsUpheld requester.new }
-    ensures packet { IsWritten (packet_of number (holding requester.old.handle.held)) result out.old out.new }
+    ensures packet { IsWritten (packet_of number 0 (holding requester.old.handle.held)) result out.old out.new }
+    ensures held { HoldsAfter unchanged requester.old.handle.held requester.new.handle.held }
+{
+    needleoat_requester_packet_at(alloc, requester, number, 0, out)
+}
+
+/// Writes packet `index` of a request that is remembered, counted from 0, and returns its length in bytes, else 0.
+#[unsafe(no_mangle)]
+pub extern "C" fn needleoat_requester_packet_at(
+    alloc: Global,
+    requester: &mut RequesterForC,
+    number: u64,
+    index: u32,
+    out: &mut [u8; MAX_PACKET_BYTES],
+) -> u32
+    requires { IsUpheld requester.old }
+    ensures upheld { IsUpheld requester.new }
+    ensures packet { IsWritten (packet_of number index (holding requester.old.handle.held)) result out.old out.new }
     ensures held { HoldsAfter unchanged requester.old.handle.held requester.new.handle.held }
 {
     if !requester.is_live {
         return 0;
     }
     let inside = requester.handle.take(alloc);
-    let length = requester::packet(&inside, number, out);
+    let length = requester::packet(&inside, number, index, out);
     requester.handle.put(inside);
     length
 }

@@ -1,13 +1,16 @@
 //! The structs of settings from which C makes an endpoint or a requester.
 
-ghost use Rattle.std.specs.Prelude.{◌≡◌, ◌≤◌, ◌↔◌, IsSome, IfSome, true};
+ghost use Rattle.std.specs.Prelude.{◌≡◌, ◌≤◌, ◌↔◌, IsSome, IfSome, is_some, true};
+ghost use Rattle.pldm_requester.specs.Timings.{timing_fault};
+ghost use Rattle.pldm_responder.specs.Ends.{eid_or_null};
+ghost use Rattle.needleoat_c.specs.Termini.{IsPeer, timing_in};
 ghost use Rattle.pldm_wire.specs.declared.assigned.TheConstants.{INSTANCE_IDS};
 ghost use Rattle.needleoat_c.specs.Settings.{IsBusyKind, IsKeeping, IsOwnEid, IsSetup, busy_in, control_in, first_eid, handed_in, keeping_in, pace_in, static_eid, window_in};
 
 use crate::kinds::{BUSY_ALL, BUSY_SETS};
 use mctp_control::{ControlResponder, KeptAssignments, UUID_BYTES, VERSION_BYTES};
 use mctp_packet::{Eid, Keep, NULL_EID};
-use pldm_requester::Pace;
+use pldm_requester::{MAX_TRIES, Pace, Timing};
 use pldm_responder::ResponderSettings;
 use pldm_wire::{INSTANCE_IDS, PassThrough, RestartPolicy, Window};
 
@@ -213,5 +216,69 @@ impl RequesterSettings {
             window: window.get(),
             spread: false,
         })
+    }
+}
+
+/// How an end that answers asks its peer too.
+#[repr(C)]
+#[derive(Drop)]
+pub struct PeerSettings {
+    /// The endpoint ID of the peer, 8 to 254.
+    pub device: u8,
+    /// How often a request is sent at most, 1 to 8.
+    pub tries: u8,
+    /// How long the peer keeps an answer for copies, in milliseconds, 1 to 60,000.
+    pub keep_ms: u32,
+    /// How long after it was sent a request is sent again, in milliseconds.
+    pub timeout_ms: u32,
+}
+
+// As in `include/needleoat.h`.
+const _: () = prove!(size_of::<PeerSettings>() == 12);
+
+/// A peer, and how it is asked.
+#[derive(Clone, Copy)]
+pub(crate) struct Peer {
+    /// Its endpoint ID.
+    pub(crate) device: Eid,
+    /// When a request is sent again, and when it is given up.
+    pub(crate) timing: Timing,
+}
+
+impl PeerSettings {
+    /// The peer, where these settings are in range at this endpoint ID, or at none.
+    pub(crate) fn peer(&self, own: Option<Eid>) -> Option<Peer>
+        ensures some { IsSome result ↔ IsPeer (eid_or_null own) self.now }
+        ensures device { IfSome result (λ peer. peer.device ≡ self.now.device) }
+        ensures timing { IfSome result (λ peer. peer.timing ≡ timing_in self.now) }
+    {
+        let own = match own {
+            Some(own) => own.get(),
+            None => NULL_EID,
+        };
+        let device = Eid::new(self.device)?;
+        let keep = Keep::new(self.keep_ms)?;
+        if self.has_fault(own) {
+            return None;
+        }
+        let timing = Timing {
+            keep,
+            timeout: self.timeout_ms,
+            tries: self.tries,
+        };
+        Some(Peer { device, timing })
+    }
+
+    /// Whether no requester at this endpoint ID can ask so.
+    fn has_fault(&self, own: u8) -> bool
+        ensures { result ≡ is_some (timing_fault own self.now.device (timing_in self.now)) }
+    {
+        if self.timeout_ms == 0 || self.tries < 1 || self.tries > MAX_TRIES {
+            return true;
+        }
+        if u64::from(self.tries) * u64::from(self.timeout_ms) > u64::from(self.keep_ms) {
+            return true;
+        }
+        own == self.device
     }
 }
