@@ -1019,10 +1019,10 @@ struct needleoat_opening needleoat_requester_open(struct needleoat_requester *re
 
 /*
  * Opens a request of any PLDM type: of this type, 0 to 63, and this command, with this data, which is what follows the
- * header of its message (DSP0240, "PLDM message fields"); at most 316 bytes. A type above 63 and longer data are refused
- * with 6. All else is as in needleoat_requester_open; where the data has more than 60 bytes, the request has several
- * packets (needleoat_requester_packet_at), and all are to be sent. The data of the response begins at byte 5 of the message that
- * needleoat_requester_status writes.
+ * header of its message (DSP0240, "PLDM message fields"); at most 316 bytes. A type above 63 and longer data are
+ * refused with 6. All else is as in needleoat_requester_open; where the data has more than 60 bytes, the request has
+ * several packets (needleoat_requester_packet_at), and all are to be sent. The data of the response begins at byte 5 of
+ * the message that needleoat_requester_status writes.
  */
 struct needleoat_opening needleoat_requester_open_request(struct needleoat_requester *requester, uint64_t now_ms,
                                                           uint8_t pldm_type, uint8_t command, const uint8_t *data,

@@ -1,6 +1,7 @@
 /*
- * The requesting end: a request whose answer is lost, its retry, a second request, one that is given up, and requests of
- * another PLDM type by their bytes. The device is a fan that keeps one answer. A call that had no memory is made again, at most three times: it changed nothing.
+ * The requesting end: a request whose answer is lost, its retry, a second request, one that is given up, and requests
+ * of another PLDM type by their bytes. The device is a fan that keeps one answer. A call that had no memory is made
+ * again, at most three times: it changed nothing.
  */
 #include "needleoat.h"
 #include <inttypes.h>

@@ -1,26 +1,28 @@
 /*
- * Two devices that answer and ask, at the endpoints 9 and 10, each over one handle: a terminus. Each sends the other
- * 1,000 requests, and answers those that it gets, over a link that loses every fifth packet and repeats every seventh.
- * Every third request is of the OEM type, which is handed on as bytes and answered with its own data; the others read an
- * effecter, whose value is its ID. Request n has n as its data, or reads the effecter n: an answer with another number
- * is wrong.
+ * Two devices that answer and ask, at the endpoints 9 and 10, each over one handle: a terminus. Each asks the other for
+ * 1,000 numbers, and answers what it is asked, over a link that loses every fifth packet and repeats every seventh.
+ * Every third request is of the OEM type, which is handed on as bytes and answered with its own data; the others read
+ * an effecter, whose value is its ID. The number asked for is the data, or the effecter: an answer with another number
+ * is wrong. What is given up is asked for once more, by another request.
  */
 #include "needleoat.h"
 #include <inttypes.h>
 #include <stdio.h>
 #include <string.h>
 
-enum { REQUESTS = 1000, KEEP_MS = 500, TIMEOUT_MS = 50, TRIES = 8, OEM = 63, ECHO = 7, QUEUE = 64 };
+enum { REQUESTS = 1000, KEEP_MS = 500, TIMEOUT_MS = 50, TRIES = 8, OEM = 63, ECHO = 7, QUEUE = 64, REMEMBERED = 32 };
 
 struct device {
     struct needleoat_terminus terminus;
     uint8_t own, peer;
-    uint32_t asked, answered, wrong; /* requests that were opened, that were answered, and that were answered wrongly */
+    uint32_t asked, answered, wrong; /* for how many numbers, how many answers came, and how many were wrong */
     uint32_t performed;              /* requests of the peer that were performed */
+    uint32_t numbers[REMEMBERED];    /* what the last requests asked for */
+    uint32_t again[REMEMBERED], again_count; /* what is to be asked for once more */
 };
 
-static struct device devices[2] = {{NEEDLEOAT_TERMINUS_NONE, 9, 10, 0, 0, 0, 0},
-                                   {NEEDLEOAT_TERMINUS_NONE, 10, 9, 0, 0, 0, 0}};
+static struct device devices[2] = {{.terminus = NEEDLEOAT_TERMINUS_NONE, .own = 9, .peer = 10},
+                                   {.terminus = NEEDLEOAT_TERMINUS_NONE, .own = 10, .peer = 9}};
 static uint64_t now_ms;
 
 /* ---- The link ---- */
@@ -72,9 +74,11 @@ static struct needleoat_step respond(struct device *device, const struct needleo
 
 /* ---- What asks ---- */
 
-/* Opens request n: an OEM request with the number as its data, or GetNumericEffecterValue of the effecter n. */
+/* Opens a request for the next number n: one of the OEM type, or GetNumericEffecterValue of the effecter n. */
 static void ask(struct device *device) {
-    uint32_t n = device->asked;
+    bool is_again = device->again_count > 0;
+    if (!is_again && device->asked == REQUESTS) return;
+    uint32_t n = is_again ? device->again[device->again_count - 1] : device->asked;
     uint8_t number[2] = {(uint8_t)n, (uint8_t)(n >> 8)}, packet[NEEDLEOAT_PACKET_BYTES];
     struct needleoat_command command = {.pldm_type = NEEDLEOAT_PLATFORM,
                                         .command = NEEDLEOAT_GET_NUMERIC_EFFECTER_VALUE,
@@ -84,9 +88,12 @@ static void ask(struct device *device) {
     if (n % 3 == 0)
         opening = needleoat_terminus_open_request(&device->terminus, now_ms, OEM, ECHO, number, sizeof number);
     else
-        opening = needleoat_terminus_open(&device->terminus, now_ms, request, needleoat_command_write(&command, request));
+        opening =
+            needleoat_terminus_open(&device->terminus, now_ms, request, needleoat_command_write(&command, request));
     if (opening.refusal != 0) return; /* too soon: later once more */
-    device->asked++;
+    if (is_again) device->again_count--;
+    else device->asked++;
+    device->numbers[opening.number % REMEMBERED] = n;
     send(packet, needleoat_terminus_packet(&device->terminus, opening.number, 0, packet));
 }
 
@@ -101,7 +108,8 @@ static void check(struct device *device, uint64_t number) {
     uint8_t response[NEEDLEOAT_MESSAGE_BYTES];
     struct needleoat_status status = needleoat_terminus_status(&device->terminus, number, response);
     device->answered++;
-    device->wrong += status.kind != NEEDLEOAT_STATUS_ANSWERED || number_in(response, status.length) != number;
+    device->wrong += status.kind != NEEDLEOAT_STATUS_ANSWERED ||
+                     number_in(response, status.length) != device->numbers[number % REMEMBERED];
 }
 
 static void tick(struct device *device) {
@@ -112,11 +120,13 @@ static void tick(struct device *device) {
     if (needleoat_terminus_tick(&device->terminus, now_ms, &due) != 0) return;
     for (uint32_t i = 0; i < due.again_count; i++)
         send(packet, needleoat_terminus_packet(&device->terminus, due.again[i], 0, packet));
+    for (uint32_t i = 0; i < due.given_up_count; i++)
+        device->again[device->again_count++] = device->numbers[due.given_up[i] % REMEMBERED];
 }
 
 /* ---- Both ---- */
 
-/* A packet comes to a device, which answers it, or takes it as an answer. Where memory was refused, it counts as lost. */
+/* A packet comes to a device. Where memory was refused, it counts as lost. */
 static void come(struct device *device, const uint8_t *bytes, uint32_t length) {
     struct needleoat_command command;
     struct needleoat_coming coming =
@@ -155,7 +165,7 @@ static void run(void) {
     for (; !is_done() && now_ms < 1000000; now_ms++) {
         for (int i = 0; i < 2; i++) {
             tick(&devices[i]);
-            if (devices[i].asked < REQUESTS) ask(&devices[i]);
+            ask(&devices[i]);
         }
         while (count > 0) {
             uint8_t bytes[NEEDLEOAT_PACKET_BYTES];
