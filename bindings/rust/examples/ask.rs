@@ -1,12 +1,12 @@
-//! The requesting end: a request whose answer is lost, its retry, a second request, and one that is given up. The
-//! device is a fan that keeps one answer.
+//! The requesting end: a request whose answer is lost, its retry, a second request, one that is given up, and requests
+//! of another PLDM type by their bytes. The device is a fan that keeps one answer.
 
 use std::fmt::{self, Write};
 
-use needleoat::bounds::{MESSAGE_BYTES, PACKET_BYTES, REQUEST_BYTES};
+use needleoat::bounds::{MESSAGE_BYTES, PACKETS, PACKET_BYTES, REQUEST_BYTES, REQUEST_DATA};
 use needleoat::{
-    answer_write, command, command_read, command_write, data_size, packet_read, packet_write, Answer, Command,
-    Receiving, Requester, RequesterSettings, Status,
+    answer_write, command, command_read, command_write, data_size, packet_read, packet_write, Answer, Command, Opening,
+    Receiving, Refusal, Requester, RequesterSettings, Status,
 };
 
 mod shared;
@@ -65,13 +65,48 @@ impl Asker<'_> {
     fn open(&mut self, now: u64, command: &Command) -> fmt::Result {
         let mut request = [0; REQUEST_BYTES];
         let length = command_write(command, &mut request).unwrap_or(0);
-        match with_memory(|| self.requester.open(moment(now), &request[..length])) {
+        let opening = with_memory(|| self.requester.open(moment(now), &request[..length]));
+        self.write_opening(now, opening)
+    }
+
+    /// Opens a request of any PLDM type, by its data.
+    fn open_request(&mut self, now: u64, pldm_type: u8, command: u8, data: &[u8]) -> fmt::Result {
+        let opening = with_memory(|| self.requester.open_request(moment(now), pldm_type, command, data));
+        self.write_opening(now, opening)
+    }
+
+    fn write_opening(&mut self, now: u64, opening: Result<Opening, Refusal>) -> fmt::Result {
+        match opening {
             Err(refusal) => writeln!(self.out, "{now} not opened: {}", refusal.number()),
             Ok(opening) => {
                 write!(self.out, "{now} opened {}, ", opening.number)?;
                 writeln!(self.out, "instance ID {}, tag {}", opening.instance_id, opening.tag)
             }
         }
+    }
+
+    /// FRU data (PLDM type 4, DSP0257): GetFRURecordTable (0x02), its answer, and a request of all that a message has.
+    fn ask_by_bytes(&mut self) -> fmt::Result {
+        const FIRST_PART: [u8; 5] = [0, 0, 0, 0, 1];
+        const ANSWER: [u8; 16] = [1, 8, 9, 0xc3, 1, 3, 4, 2, 0, 0, 0, 0, 0, 5, b'a', b'b'];
+        let data: Vec<u8> = (0..=REQUEST_DATA).map(|byte| byte as u8).collect();
+        self.open_request(1000, 64, 2, &FIRST_PART)?;
+        self.open_request(1000, 4, 2, &data)?;
+        self.open_request(1000, 4, 2, &FIRST_PART)?;
+        let mut packet = [0; PACKET_BYTES];
+        let length = self.requester.packet(3, &mut packet).unwrap_or(0);
+        writeln!(self.out, "packet {}", hex(&packet[..length]))?;
+        self.receive(1010, &ANSWER)?;
+        self.status(3)?;
+        self.open_request(1020, 4, 1, &data[..REQUEST_DATA])?;
+        for index in 0..=PACKETS as u32 {
+            let length = self.requester.packet_at(4, index, &mut packet);
+            writeln!(self.out, "packet {index}: {} bytes", length.unwrap_or(0))?;
+            if length.is_some() {
+                writeln!(self.out, "it begins {}", hex(&packet[..8]))?;
+            }
+        }
+        Ok(())
     }
 
     /// Sends the packet of a request to the device, and writes what that says.
@@ -171,6 +206,7 @@ pub fn run(_input: &str, out: &mut String) -> fmt::Result {
     asker.tick(1000)?;
     asker.status(2)?;
     asker.status(3)?;
+    asker.ask_by_bytes()?;
     asker.requester.free();
     asker.status(2)?;
     asker.tick(1001)

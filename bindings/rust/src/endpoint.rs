@@ -19,9 +19,9 @@ const CONTROL: u8 = 6;
 /// The packets of an answer. Each call that takes them fills them anew; where it answers nothing there are none.
 #[derive(Clone, Debug)]
 pub struct Packets {
-    bytes: [[u8; PACKET_BYTES]; PACKETS],
+    pub(crate) bytes: [[u8; PACKET_BYTES]; PACKETS],
     lengths: [u32; PACKETS],
-    count: u32,
+    pub(crate) count: u32,
 }
 
 impl Packets {
@@ -86,6 +86,22 @@ pub enum Step {
     Respond(CommandHandle),
     /// A control message is answered: the one packet is to be sent to where the packet came from.
     Control,
+}
+
+impl Step {
+    /// The step that the library reports, with the command that it put down; its packets go into `packets`.
+    pub(crate) fn of(step: &raw::Step, command: Command, packets: &mut Packets) -> Self {
+        packets.take(step);
+        match step.kind {
+            DROPPED => Self::Dropped(Reason::of(step.reason)),
+            PARTIAL => Self::Partial,
+            ANSWERED => Self::Answered(Answered { fresh: step.fresh, changed: step.changed }),
+            PERFORM => Self::Perform(step.handle, command),
+            RESPOND => Self::Respond(step.handle),
+            CONTROL => Self::Control,
+            _ => Self::Refused(Refusal::of(step.reason)),
+        }
+    }
 }
 
 /// An endpoint that answers, or none.
@@ -163,16 +179,7 @@ impl Endpoint {
                 packets.bytes.as_mut_ptr(),
             )
         };
-        packets.take(&step);
-        match step.kind {
-            DROPPED => Step::Dropped(Reason::of(step.reason)),
-            PARTIAL => Step::Partial,
-            ANSWERED => Step::Answered(Answered { fresh: step.fresh, changed: step.changed }),
-            PERFORM => Step::Perform(step.handle, command),
-            RESPOND => Step::Respond(step.handle),
-            CONTROL => Step::Control,
-            _ => Step::Refused(Refusal::of(step.reason)),
-        }
+        Step::of(&step, command, packets)
     }
 
     /// The endpoint ID that the endpoint has; `None` where it has none yet, or there is no endpoint.
@@ -261,7 +268,7 @@ impl Endpoint {
     }
 }
 
-fn answered(step: &raw::Step, packets: &mut Packets) -> Result<Answered, Refusal> {
+pub(crate) fn answered(step: &raw::Step, packets: &mut Packets) -> Result<Answered, Refusal> {
     packets.take(step);
     match step.kind {
         ANSWERED => Ok(Answered { fresh: step.fresh, changed: step.changed }),

@@ -417,6 +417,20 @@ pub struct RequesterSettings {
     pub window: u32,
 }
 
+/// Whom a [`Terminus`](crate::Terminus) asks, and how (`struct needleoat_peer_settings`).
+#[repr(C)]
+#[derive(Clone, Copy, Debug, PartialEq, Eq, Hash)]
+pub struct PeerSettings {
+    /// The endpoint ID of the peer, 8 to 254.
+    pub device: u8,
+    /// How often a request is sent at most, 1 to 8.
+    pub tries: u8,
+    /// How long the peer keeps an answer for copies, 1 to 60,000 milliseconds.
+    pub keep_ms: u32,
+    /// How long after it was sent a request is sent again, 1 millisecond or more.
+    pub timeout_ms: u32,
+}
+
 impl RequesterSettings {
     /// Each field 0.
     pub const ZERO: Self = Self { own: 0, device: 0, tries: 0, keep_ms: 0, timeout_ms: 0, lifetime_ms: 0, window: 0 };

@@ -4,7 +4,7 @@ use core::mem::{offset_of, size_of};
 
 use crate::fields::*;
 use crate::raw::{
-    Block, CommandReading, Due, Handle, I2cFrame, I3cFrame, Message, Opening, Packet, Receiving, Status, Step,
+    Block, Coming, CommandReading, Due, Handle, I2cFrame, I3cFrame, Message, Opening, Packet, Receiving, Status, Step,
 };
 use crate::record_fields::*;
 
@@ -142,6 +142,12 @@ layout! {
     }
     Status 8 {
         kind 0, length 4,
+    }
+    PeerSettings 12 {
+        device 0, tries 1, keep_ms 4, timeout_ms 8,
+    }
+    Coming 72 {
+        half 0, step 8, receiving 56,
     }
     Block 16 {
         is_there 0, at 8,

@@ -36,6 +36,7 @@ mod raw;
 mod record_fields;
 mod records;
 mod requester;
+mod terminus;
 
 pub use codecs::{
     answer_check, answer_read, answer_write, base_answer, command_read, command_write, crc32, crc8, packet_count,
@@ -43,8 +44,8 @@ pub use codecs::{
 };
 pub use endpoint::{Answered, Endpoint, Packets, Step};
 pub use fields::{
-    Answer, Command, CommandHandle, EffecterState, EndpointSettings, Request, RequesterSettings, SensorState, SetState,
-    TypeCommand, TypeVersion,
+    Answer, Command, CommandHandle, EffecterState, EndpointSettings, PeerSettings, Request, RequesterSettings,
+    SensorState, SetState, TypeCommand, TypeVersion,
 };
 pub use frames::{i2c_read, i2c_write, i3c_read, i3c_write, I2cFrame};
 pub use moment::{Clock, Moment};
@@ -57,3 +58,4 @@ pub use record_fields::{
 };
 pub use records::{records_answer, Record};
 pub use requester::{Due, Opening, Receiving, Requester, Status};
+pub use terminus::{Coming, Terminus};

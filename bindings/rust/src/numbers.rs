@@ -299,6 +299,10 @@ numbers! {
         TooManySources = 14,
         /// Of a packet: it begins a message of several, and none may be open.
         TooManyOpenMessages = 15,
+        /// Of a terminus: it has no endpoint ID to ask from, or that of its peer.
+        NoEid = 16,
+        /// Of a terminus: it began to ask less than twice the keeping time ago.
+        Resting = 17,
     }
 }
 

@@ -1,7 +1,8 @@
 //! The calls of `needleoat.h` as they are there. The other files keep what the header asks of their pointers.
 
 use crate::fields::{
-    Answer, Command, CommandHandle, EndpointSettings, Request, RequesterSettings, TypeCommand, TypeVersion,
+    Answer, Command, CommandHandle, EndpointSettings, PeerSettings, Request, RequesterSettings, TypeCommand,
+    TypeVersion,
 };
 use crate::numbers::bounds::{PACKETS, PACKET_BYTES};
 use crate::record_fields::{
@@ -116,6 +117,15 @@ pub struct Receiving {
 pub struct Status {
     pub kind: u8,
     pub length: u32,
+}
+
+/// What `needleoat_terminus_receive` returns.
+#[repr(C)]
+#[derive(Clone, Copy)]
+pub struct Coming {
+    pub half: u8,
+    pub step: Step,
+    pub receiving: Receiving,
 }
 
 /// A block of memory. Its address has 8 bytes of room on each processor.
@@ -233,6 +243,14 @@ extern "C" {
 
     pub fn needleoat_requester_new(settings: *const RequesterSettings, requester: *mut Handle) -> u8;
     pub fn needleoat_requester_open(requester: *mut Handle, now_ms: u64, request: *const u8, length: u64) -> Opening;
+    pub fn needleoat_requester_open_request(
+        requester: *mut Handle,
+        now_ms: u64,
+        pldm_type: u8,
+        command: u8,
+        data: *const u8,
+        length: u64,
+    ) -> Opening;
     pub fn needleoat_requester_tick(requester: *mut Handle, now_ms: u64, due: *mut Due) -> u8;
     pub fn needleoat_requester_next_deadline(requester: *mut Handle, deadline_ms: *mut u64) -> bool;
     pub fn needleoat_requester_receive(
@@ -242,8 +260,59 @@ extern "C" {
         length: u64,
     ) -> Receiving;
     pub fn needleoat_requester_packet(requester: *mut Handle, number: u64, out: *mut u8) -> u32;
+    pub fn needleoat_requester_packet_at(requester: *mut Handle, number: u64, index: u32, out: *mut u8) -> u32;
     pub fn needleoat_requester_status(requester: *mut Handle, number: u64, message: *mut u8) -> Status;
     pub fn needleoat_requester_free(requester: *mut Handle);
+
+    pub fn needleoat_terminus_new(
+        settings: *const EndpointSettings,
+        peer: *const PeerSettings,
+        now_ms: u64,
+        rest_ms: u64,
+        terminus: *mut Handle,
+    ) -> u8;
+    pub fn needleoat_terminus_receive(
+        terminus: *mut Handle,
+        now_ms: u64,
+        packet: *const u8,
+        length: u64,
+        command: *mut Command,
+        packets: *mut [u8; PACKET_BYTES],
+    ) -> Coming;
+    pub fn needleoat_terminus_answer(
+        terminus: *mut Handle,
+        handle: *const CommandHandle,
+        answer: *const Answer,
+        packets: *mut [u8; PACKET_BYTES],
+    ) -> Step;
+    pub fn needleoat_terminus_request(
+        terminus: *mut Handle,
+        handle: *const CommandHandle,
+        request: *mut Request,
+    ) -> bool;
+    pub fn needleoat_terminus_answer_bytes(
+        terminus: *mut Handle,
+        handle: *const CommandHandle,
+        code: u8,
+        data: *const u8,
+        length: u64,
+        packets: *mut [u8; PACKET_BYTES],
+    ) -> Step;
+    pub fn needleoat_terminus_open(terminus: *mut Handle, now_ms: u64, request: *const u8, length: u64) -> Opening;
+    pub fn needleoat_terminus_open_request(
+        terminus: *mut Handle,
+        now_ms: u64,
+        pldm_type: u8,
+        command: u8,
+        data: *const u8,
+        length: u64,
+    ) -> Opening;
+    pub fn needleoat_terminus_tick(terminus: *mut Handle, now_ms: u64, due: *mut Due) -> u8;
+    pub fn needleoat_terminus_next_deadline(terminus: *mut Handle, deadline_ms: *mut u64) -> bool;
+    pub fn needleoat_terminus_packet(terminus: *mut Handle, number: u64, index: u32, out: *mut u8) -> u32;
+    pub fn needleoat_terminus_status(terminus: *mut Handle, number: u64, message: *mut u8) -> Status;
+    pub fn needleoat_terminus_restart(terminus: *mut Handle, now_ms: u64) -> u8;
+    pub fn needleoat_terminus_free(terminus: *mut Handle);
 }
 
 /// The bytes and their number as the calls take them: one byte at least is there, also where there are none.

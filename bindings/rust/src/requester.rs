@@ -69,6 +69,47 @@ pub enum Status {
     GaveUp,
 }
 
+impl Opening {
+    /// The opening that the library reports, or why there is none.
+    pub(crate) fn of(opening: &raw::Opening) -> Result<Self, Refusal> {
+        unless_refused(opening.refusal)?;
+        Ok(Self { instance_id: opening.instance_id, tag: opening.tag, number: opening.number })
+    }
+}
+
+impl Due {
+    /// Nothing is due.
+    pub(crate) const NONE: raw::Due = raw::Due { again_count: 0, given_up_count: 0, again: [0; 8], given_up: [0; 8] };
+
+    pub(crate) const fn of(due: raw::Due) -> Self {
+        Self(due)
+    }
+}
+
+impl Receiving {
+    /// What the library reports of a packet.
+    pub(crate) fn of(receiving: &raw::Receiving) -> Self {
+        match receiving.kind {
+            DROPPED => Self::Dropped(Reason::of(receiving.reason)),
+            PARTIAL => Self::Partial,
+            COMPLETED => Self::Answered(receiving.number),
+            _ => Self::Refused(Refusal::of(receiving.reason)),
+        }
+    }
+}
+
+impl Status {
+    /// How the library says that a request stands.
+    pub(crate) const fn of(status: raw::Status) -> Self {
+        match status.kind {
+            OPEN => Self::Open,
+            ANSWERED => Self::Answered(status.length as usize),
+            GAVE_UP => Self::GaveUp,
+            _ => Self::Unknown,
+        }
+    }
+}
+
 /// A requester at one endpoint that asks one device, or none.
 ///
 /// It is freed on drop. One that is forgotten ([`core::mem::forget`]) leaks its memory. While a request is open it is
@@ -134,8 +175,24 @@ impl Requester {
         let (place, length) = given(request);
         // SAFETY: `place` has `length` bytes that may be read, and one at least; the handle is this one's alone.
         let opening = unsafe { raw::needleoat_requester_open(&mut self.handle, now.ms(), place, length) };
-        unless_refused(opening.refusal)?;
-        Ok(Opening { instance_id: opening.instance_id, tag: opening.tag, number: opening.number })
+        Opening::of(&opening)
+    }
+
+    /// Opens a request of any PLDM type, 0 to 63: of this command, with this data, which is what follows the header of
+    /// its message, at most 316 bytes. All its packets ([`Requester::packet_at`]) are to be sent at that moment. The
+    /// data of the response begins at byte 5 of the message that [`Requester::status`] writes.
+    ///
+    /// # Errors
+    /// The first of [`Refusal::NothingThere`], [`Refusal::BadMoment`], [`Refusal::OutOfRange`], [`Refusal::TagInUse`],
+    /// [`Refusal::IdInUse`] and [`Refusal::NoMemory`].
+    pub fn open_request(&mut self, now: Moment, pldm_type: u8, command: u8, data: &[u8]) -> Result<Opening, Refusal> {
+        self.reach(now)?;
+        let (place, length) = given(data);
+        // SAFETY: `place` has `length` bytes that may be read, and one at least; the handle is this one's alone.
+        let opening = unsafe {
+            raw::needleoat_requester_open_request(&mut self.handle, now.ms(), pldm_type, command, place, length)
+        };
+        Opening::of(&opening)
     }
 
     /// Lists the requests that are due at a moment.
@@ -144,7 +201,7 @@ impl Requester {
     /// [`Refusal::NothingThere`] or [`Refusal::BadMoment`].
     pub fn tick(&mut self, now: Moment) -> Result<Due, Refusal> {
         self.reach(now)?;
-        let mut due = raw::Due { again_count: 0, given_up_count: 0, again: [0; 8], given_up: [0; 8] };
+        let mut due = Due::NONE;
         // SAFETY: the handle and `due` are borrowed alone.
         unless_refused(unsafe { raw::needleoat_requester_tick(&mut self.handle, now.ms(), &mut due) })?;
         Ok(Due(due))
@@ -168,32 +225,28 @@ impl Requester {
         let (place, length) = given(packet);
         // SAFETY: `place` has `length` bytes that may be read, and one at least; the handle is this one's alone.
         let receiving = unsafe { raw::needleoat_requester_receive(&mut self.handle, now.ms(), place, length) };
-        match receiving.kind {
-            DROPPED => Receiving::Dropped(Reason::of(receiving.reason)),
-            PARTIAL => Receiving::Partial,
-            COMPLETED => Receiving::Answered(receiving.number),
-            _ => Receiving::Refused(Refusal::of(receiving.reason)),
-        }
+        Receiving::of(&receiving)
     }
 
-    /// Writes the packet of a request to the front of `out`, and returns its length in bytes; `None`, with `out` as it
-    /// was, where the request is not among the last 32. The packet is the same each time that it is sent.
+    /// Writes the first packet of a request to the front of `out`, and returns its length in bytes; `None`, with `out`
+    /// as it was, where the request is not among the last 32. The packet is the same each time that it is sent. The
+    /// request of a command has no other.
     pub fn packet(&mut self, number: u64, out: &mut [u8; PACKET_BYTES]) -> Option<usize> {
         // SAFETY: the handle and `out`, which has the bytes of a packet, are borrowed alone.
         written(unsafe { raw::needleoat_requester_packet(&mut self.handle, number, out.as_mut_ptr()) })
+    }
+
+    /// The same of packet `index`, counted from 0: `None` also where the request has no such packet.
+    pub fn packet_at(&mut self, number: u64, index: u32, out: &mut [u8; PACKET_BYTES]) -> Option<usize> {
+        // SAFETY: the handle and `out`, which has the bytes of a packet, are borrowed alone.
+        written(unsafe { raw::needleoat_requester_packet_at(&mut self.handle, number, index, out.as_mut_ptr()) })
     }
 
     /// Reports how a request stands, and writes the response that answered it to the front of `message`, which is as it
     /// was where there is none.
     pub fn status(&mut self, number: u64, message: &mut [u8; MESSAGE_BYTES]) -> Status {
         // SAFETY: the handle and `message`, which has the bytes of a message, are borrowed alone.
-        let status = unsafe { raw::needleoat_requester_status(&mut self.handle, number, message.as_mut_ptr()) };
-        match status.kind {
-            OPEN => Status::Open,
-            ANSWERED => Status::Answered(status.length as usize),
-            GAVE_UP => Status::GaveUp,
-            _ => Status::Unknown,
-        }
+        Status::of(unsafe { raw::needleoat_requester_status(&mut self.handle, number, message.as_mut_ptr()) })
     }
 
     /// Frees the requester, where there is one.

@@ -18,7 +18,7 @@ macro_rules! calls {
 }
 
 fn with_a_safe_call() -> BTreeSet<&'static str> {
-    use needleoat::{Endpoint, Record, Requester};
+    use needleoat::{Endpoint, Record, Requester, Terminus};
     calls! {
         needleoat_packet_read => needleoat::packet_read;
         needleoat_packet_count => needleoat::packet_count;
@@ -56,12 +56,27 @@ fn with_a_safe_call() -> BTreeSet<&'static str> {
         needleoat_endpoint_free => Endpoint::free;
         needleoat_requester_new => Requester::make;
         needleoat_requester_open => Requester::open;
+        needleoat_requester_open_request => Requester::open_request;
         needleoat_requester_tick => Requester::tick;
         needleoat_requester_next_deadline => Requester::next_deadline;
         needleoat_requester_receive => Requester::receive;
         needleoat_requester_packet => Requester::packet;
+        needleoat_requester_packet_at => Requester::packet_at;
         needleoat_requester_status => Requester::status;
         needleoat_requester_free => Requester::free;
+        needleoat_terminus_new => Terminus::make;
+        needleoat_terminus_receive => Terminus::receive;
+        needleoat_terminus_answer => Terminus::answer;
+        needleoat_terminus_request => Terminus::request;
+        needleoat_terminus_answer_bytes => Terminus::answer_bytes;
+        needleoat_terminus_open => Terminus::open;
+        needleoat_terminus_open_request => Terminus::open_request;
+        needleoat_terminus_tick => Terminus::tick;
+        needleoat_terminus_next_deadline => Terminus::next_deadline;
+        needleoat_terminus_packet => Terminus::packet;
+        needleoat_terminus_status => Terminus::status;
+        needleoat_terminus_restart => Terminus::restart;
+        needleoat_terminus_free => Terminus::free;
     }
 }
 
@@ -93,7 +108,7 @@ fn in_source(source: &'static str) -> BTreeSet<&'static str> {
 fn each_function_is_declared_and_called() {
     let code = code();
     let functions = functions(&code);
-    assert_eq!(functions.len(), 45, "the test reads the header: 42 calls and three of memory");
+    assert_eq!(functions.len(), 60, "the test reads the header: 57 calls and three of memory");
     let (memory, calls): (BTreeSet<&str>, BTreeSet<&str>) =
         functions.iter().partition(|name| name.starts_with("rattle_"));
     assert_eq!(calls, with_a_safe_call());
@@ -116,7 +131,7 @@ fn each_struct_lies_as_the_header_asserts() {
         if let Some(fact) = line.strip_prefix("NEEDLEOAT_ASSERT(sizeof(struct ") {
             let (name, size) = fact.trim_end_matches(");").split_once(") == ").expect("a size");
             let name = match name {
-                "needleoat_endpoint" | "needleoat_requester" => "Handle".to_owned(),
+                "needleoat_endpoint" | "needleoat_requester" | "needleoat_terminus" => "Handle".to_owned(),
                 name => in_rust(name),
             };
             assert!(LAYOUT.contains(&format!("    {name} {size} {{\n")), "{name} {size}");
@@ -125,7 +140,7 @@ fn each_struct_lies_as_the_header_asserts() {
             let words: Vec<&str> = fact.trim_end_matches(");").split(", ").collect();
             let [name, field, place] = words[..] else { panic!("{line}") };
             let name = match name {
-                "needleoat_endpoint" | "needleoat_requester" => "Handle".to_owned(),
+                "needleoat_endpoint" | "needleoat_requester" | "needleoat_terminus" => "Handle".to_owned(),
                 name => in_rust(name),
             };
             let (_, fields) = LAYOUT.split_once(&format!("    {name} ")).expect("a struct");
@@ -166,7 +181,7 @@ fn the_numbers_are_those_of_the_header() {
             numbers += 1;
         }
     }
-    assert_eq!(numbers, 21 + 7 + 2 + 7 + 3 + 15);
+    assert_eq!(numbers, 21 + 7 + 2 + 7 + 3 + 17);
 }
 
 /// The constants of the crate, and those of the header.
