@@ -67,7 +67,8 @@ pub extern "C" fn needleoat_requester_open(
 ) -> OpeningReport
     requires { IsUpheld requester.old }
     ensures upheld { IsUpheld requester.new }
-    ensures report { ReportsOpening (opening_at now_ms (asked_in request.now) (holding requester.old.handle.held)) result }
+    ensures report { ReportsOpening (opening_at now_ms (asked_in request.now)
+        (holding requester.old.handle.held)) result }
     ensures memory { result.refusal ≡ NO_MEMORY → MayNeedRoom MAX_REMEMBERED (holding requester.old.handle.held) }
     ensures held { HoldsAfter (opened_by now_ms (asked_in request.now) result.refusal)
         requester.old.handle.held requester.new.handle.held }

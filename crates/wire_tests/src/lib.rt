@@ -25,5 +25,3 @@ mod records;
 mod smbus;
 #[cfg(test)]
 mod update_package;
-#[cfg(test)]
-mod whole_update;
