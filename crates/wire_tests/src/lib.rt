@@ -1,6 +1,6 @@
 //! Tests of packets, also on SMBus and I3C (each PEC in them comes from another program), of messages of several
-//! packets, of PLDM messages, of platform data records, of firmware update and its packages (bytes that were written by
-//! hand from the standards' layouts), and of a whole update, over public calls.
+//! packets, of PLDM messages, of platform data records, and of firmware update and its packages (bytes that were written
+//! by hand from the standards' layouts), over public calls.
 #![tactic(auto)]
 
 #[cfg(test)]
