@@ -6,6 +6,7 @@ pub mod KeyOrder
 pub mod WorkedRows
 pub mod NewestRequests
 pub mod OpenRequests
+pub mod Outlines
 pub mod TagSearch
 pub mod FedPackets
 pub mod Moments

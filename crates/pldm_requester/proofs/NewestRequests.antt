@@ -15,6 +15,20 @@ newest_same f g (suc n) (suc most) same =
     let rest = newest_same f g n most (λ k l m. same k (omega arith) (omega arith)) in
     λ i. here i ∷ rest i
 
+-- ---- as many pass a test that they pass alike
+pub counted_same : (test : Course → Bool) (f g : ℕ → Course) (n most : ℕ) → ((k : ℕ) → k < n → n ≤ k + most → test (f k) ≡ test (g k)) → length (filter test (newest f n most)) ≡ length (filter test (newest g n most))
+counted_same test f g zero most same = refl
+counted_same test f g (suc n) zero same = refl
+counted_same test f g (suc n) (suc most) same =
+    go (test (f n)) (test (g n)) (same n (omega arith) (omega arith)) (counted_same test f g n most (λ k l m. same k (omega arith) (omega arith)))
+  where
+    go : (b c : Bool) → b ≡ c → length (filter test (newest f n most)) ≡ length (filter test (newest g n most))
+        → length (cond b (f n ∷ filter test (newest f n most)) (filter test (newest f n most))) ≡ length (cond c (g n ∷ filter test (newest g n most)) (filter test (newest g n most)))
+    go true true e l = ap suc l
+    go true false e l = absurd (cc)
+    go false true e l = absurd (cc)
+    go false false e l = l
+
 -- ---- more are answered later
 more_counted : (b c : Bool) (x y : Course) (xs ys : List Course) → (b ≡ true → c ≡ true) → length xs ≤ length ys → length (cond b (x ∷ xs) xs) ≤ length (cond c (y ∷ ys) ys)
 more_counted true true x y xs ys grows l = omega arith

@@ -54,7 +54,7 @@ module _ (timing : Timing) (moment : ℕ) where
   memo_stays : (o : Option Memo) → passes (is_due timing moment) o ≡ false → option_map (with_course (ticked timing moment)) o ≡ o
   memo_stays None e = refl
   memo_stays (Some memo) e =
-      ap (λ (c : Course). Some (record { kind = memo.kind; packets = memo.packets; course = c })) (stays memo.course (not_given_up memo.course e) (not_sent_again memo.course e))
+      ap (λ (c : Course). Some (record { kind = memo.kind; packets = memo.packets; course = c; is_whole = memo.is_whole })) (stays memo.course (not_given_up memo.course e) (not_sent_again memo.course e))
 
   due_is : (o : Option Memo) → passes (is_due timing moment) o ≡ true → (passes (is_given_up timing moment) o ≡ true) ⊎ (passes (is_sent_again timing moment) o ≡ true)
   due_is None e = absurd (cc)

@@ -9,9 +9,9 @@ use Rattle.pldm_requester.specs.Asks.{Ask}
 use Rattle.pldm_requester.specs.Arrivals.{Arrival, Drop, Part, Answer}
 use Rattle.pldm_requester.specs.Calls.{Call, OpenRequest, Tick, Receive}
 use Rattle.pldm_requester.specs.Courses.{Course, answered, ticked}
-use Rattle.pldm_requester.specs.Pacing.{is_too_soon}
+use Rattle.pldm_requester.specs.Pacing.{is_too_soon, kept as kept_whole}
 use Rattle.pldm_requester.specs.Numbering.{id_of}
-use Rattle.pldm_requester.specs.Steps.{Memo, RequesterState, accepts, arrived_by, courses_since, is_id_in_use, is_recent, memo_with, opened_with, passed, passes, received_held, remembered_after, ticked_held, with_course}
+use Rattle.pldm_requester.specs.Steps.{Memo, RequesterState, accepts, arrived_by, courses_since, is_id_in_use, is_kept, is_recent, memo_with, opened_with, outline_if, passed, passes, received_held, remembered_after, ticked_held, with_course}
 use Rattle.pldm_requester.specs.Resuming.{AreKnown, AreLeft, count_after, resumed_held, shut_memo}
 use Rattle.pldm_requester.specs.Processes.{AreApart, IdsApartOverProcesses, IsLongBefore, Knows, Opening, PassedOn, after, opened_by}
 use Rattle.pldm_requester.specs.declared.openings.Openings.{Openings}
@@ -55,6 +55,11 @@ arrived_same : (held : RequesterState) (arrival : Arrival) (number : ℕ) → op
 arrived_same held (Drop reason) number = refl
 arrived_same held Part number = refl
 arrived_same held (Answer n message) number = answered_same (number == n) message (held.remembered number)
+
+outlined_same : (b : Bool) (o : Option Memo) → opening_in (outline_if b o) ≡ opening_in o
+outlined_same true None = refl
+outlined_same true (Some memo) = refl
+outlined_same false o = refl
 
 -- ---- an opening
 or_first : (a b : Bool) → (a || b) ≡ false → a ≡ false
@@ -107,7 +112,7 @@ module _ (pace : Pace) (held : RequesterState) (moment : ℕ) (ask : Ask) (opene
   is_free = accepted_free _ _ ok
 
   kept : (n : ℕ) → (n ≡ held.count → ⊥) → is_recent (held.count + 1) n ≡ true → opening_in ((opened_with held moment ask).remembered n) ≡ opening_in (held.remembered n)
-  kept n other r = ap opening_in (cond-false (n == held.count) _ _ (ne_eqb n held.count other) ∙ cond-true (is_recent (held.count + 1) n) _ _ r)
+  kept n other r = ap opening_in (cond-false (n == held.count) _ _ (ne_eqb n held.count other) ∙ cond-true (is_recent (held.count + 1) n) _ _ r) ∙ outlined_same (n + kept_whole held.pace == held.count) (held.remembered n)
 
   here : (n : ℕ) → n ≡ held.count → opening_in ((opened_with held moment ask).remembered n) ≡ Some moment
   here n e = ap opening_in (cond-true (n == held.count) _ _ (eq-eqb n held.count e))
@@ -131,7 +136,7 @@ module _ (pace : Pace) (held : RequesterState) (moment : ℕ) (ask : Ask) (opene
         ⊎_elim
         (λ (b : (n == held.count) ≡ true). let s = eqb-true n held.count b in recent_from (held.count + 1) n (omega (arith, s)) (omega (arith, s)))
         (λ (r : is_recent (held.count + 1) n ≡ true). r)
-        (recent_by (n == held.count) (is_recent (held.count + 1) n) (memo_with held moment ask) (held.remembered n) m e);
+        (recent_by (n == held.count) (is_recent (held.count + 1) n) (memo_with held moment ask) (outline_if (n + kept_whole held.pace == held.count) (held.remembered n)) m e);
     known = All-cons (Remembers (opened_with held moment ask)) new_one opened
         (held.count, moment, refl, here held.count refl, omega arith)
         (All-weaker (Remembers held) (Remembers (opened_with held moment ask)) each opened p.known);
@@ -172,8 +177,9 @@ start_remembers own device timing pace now known are o k = by (nat_lt (32 + o.id
       n,
       k.0,
       is,
-      ap opening_in (cond-true (is_recent (count_after known) n) _ _ (recent_from (count_after known) n below last)
-          ∙ ap (λ (id : ℕ). option_map (shut_memo own device id) (slice_get known.moments.items id)) is
+      ap opening_in (cond-true (is_recent (count_after known) n) _ _ (recent_from (count_after known) n below last))
+          ∙ outlined_same (not (is_kept pace (count_after known) n)) (option_map (shut_memo own device (id_of n)) (slice_get known.moments.items (id_of n)))
+          ∙ ap opening_in (ap (λ (id : ℕ). option_map (shut_memo own device id) (slice_get known.moments.items id)) is
           ∙ ap (option_map (shut_memo own device o.id)) k.1),
       k.2,
     )
@@ -182,14 +188,14 @@ start_remembers own device timing pace now known are o k = by (nat_lt (32 + o.id
     by true e = let i = ltb-true (32 + o.id) (count_after known) e in at (32 + o.id) i (omega (arith, long)) (omega (arith, few))
     by false e = let i = ltb-false (32 + o.id) (count_after known) e in at o.id above (omega (arith, i)) (omega (arith, few))
 
-recent_at_start : (own device : ℕ) (r : Bool) (id : ℕ) (o : Option ℕ) (m : ℕ) → opening_in (cond r (option_map (shut_memo own device id) o) None) ≡ Some m → r ≡ true
-recent_at_start own device true id o m e = refl
-recent_at_start own device false id o m e = cc
+recent_at_start : (r : Bool) (o : Option Memo) (m : ℕ) → opening_in (cond r o None) ≡ Some m → r ≡ true
+recent_at_start true o m e = refl
+recent_at_start false o m e = cc
 
 start_passes : (own device : ℕ) (timing : Timing) (pace : Pace) (now : ℕ) (known : Openings) (earlier : List Opening) → AreKnown now known → All (Knows known) earlier → IsPassedOn pace (resumed_held own device timing pace now known) earlier
 start_passes own device timing pace now known earlier are all = record {
   paces = refl;
-  recent = λ n m e. recent_at_start own device (is_recent (count_after known) n) (id_of n) (slice_get known.moments.items (id_of n)) m e;
+  recent = λ n m e. recent_at_start (is_recent (count_after known) n) (outline_if (not (is_kept pace (count_after known) n)) (option_map (shut_memo own device (id_of n)) (slice_get known.moments.items (id_of n)))) m e;
   known = All-weaker (Knows known) (Remembers (resumed_held own device timing pace now known)) (start_remembers own device timing pace now known are) earlier all;
 }
 

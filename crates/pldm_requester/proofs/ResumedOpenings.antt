@@ -1,7 +1,7 @@
 -- What a requester leaves is known, and what it is given is what it remembers.
 use Rattle.std.proofs.Common.{◌≡◌, ◌⊎◌, ℕ, ◌+◌, ◌-◌, ◌%◌, ◌<◌, ◌≤◌, Bool, true, false, cond, List, length, Option, Some, None, refl, sym, ap, ◌∙◌, subst, inl, inr, arith}
 use Rattle.std.specs.List.{All}
-use Rattle.std.specs.Prelude.{nat_lt, option_map, slice_get, IfSome}
+use Rattle.std.specs.Prelude.{nat_lt, not, option_map, slice_get, IfSome}
 use Rattle.std.proofs.lemmas.Bool.{cond-true, ltb-true, ltb-false}
 use Rattle.std.proofs.lemmas.List.Elements.{All-get_or}
 use Rattle.std.proofs.lemmas.Option.{get_or_from_slice_get, slice_get_within}
@@ -9,12 +9,13 @@ use Rattle.mctp_packet.specs.Ids.{IsMoment}
 use Rattle.std.specs.FinMap as map
 use Rattle.pldm_requester.specs.Resuming.{AreKnown, AreLeft, count_after, last_with, resumed_held, shut_memo}
 use Rattle.pldm_requester.specs.Numbering.{id_of}
-use Rattle.pldm_requester.specs.Slots.{AreSlots, IsInPace, IsPaced, IsStation, RequesterView, held_of, most_opened, remembered_in}
-use Rattle.pldm_requester.specs.Steps.{IsHeld, Memo, is_recent, passes}
+use Rattle.pldm_requester.specs.Slots.{AreSlots, IsInPace, IsPaced, IsStation, IsWholeBy, RequesterView, held_of, most_opened, remembered_in}
+use Rattle.pldm_requester.specs.Steps.{IsHeld, Memo, is_kept, is_recent, outline_if, passes}
 use Rattle.pldm_requester.specs.Courses.{is_open}
 use Rattle.pldm_requester.specs.declared.openings.Openings.{Openings}
 use Rattle.pldm_requester.specs.declared.pace.Pace.{Pace}
 use Rattle.pldm_requester.specs.declared.timing.Timing.{Timing}
+use Rattle.pldm_requester.proofs.Outlines.{paced_outlined}
 use Rattle.pldm_requester.proofs.SlotLists.{recent_from, recent_parts}
 
 -- ---- what is left
@@ -128,7 +129,7 @@ are_known station openings now is next count each all later = record {
 -- ---- what is resumed
 module _ (own device : ℕ) (timing : Timing) (pace : Pace) (now : ℕ) (openings : Openings) (are : AreKnown now openings) (slots : List Memo)
     (long : length slots ≡ length openings.moments.items)
-    (each : (id : ℕ) → slice_get slots id ≡ option_map (shut_memo own device id) (slice_get openings.moments.items id)) where
+    (each : (id : ℕ) → slice_get slots id ≡ outline_if (not (is_kept pace (count_after openings) (last_with (count_after openings) id))) (option_map (shut_memo own device id) (slice_get openings.moments.items id))) where
   slots_are : AreSlots (count_after openings) slots
   slots_are = go (nat_lt (length openings.moments.items) 32) refl
     where
@@ -139,17 +140,6 @@ module _ (own device : ℕ) (timing : Timing) (pace : Pace) (now : ℕ) (opening
       go false e =
           let i = ltb-false (length openings.moments.items) 32 e in
           record { some = λ few. omega (arith, few, long, i, are.used); all = λ many. omega (arith, long, i, are.used) }
-
-  pub remembered_again : (number : ℕ) → remembered_in (count_after openings) slots number ≡ (resumed_held own device timing pace now openings).remembered number
-  remembered_again number = ap (λ o. cond (is_recent (count_after openings) number) o None) (each (number % 32))
-
-  shut_again : (number : ℕ) → passes is_open (remembered_in (count_after openings) slots number) ≡ false
-  shut_again number = ap (passes is_open) (remembered_again number) ∙ go (is_recent (count_after openings) number) (slice_get openings.moments.items (number % 32))
-    where
-      go : (b : Bool) (o : Option ℕ) → passes is_open (cond b (option_map (shut_memo own device (number % 32)) o) None) ≡ false
-      go true None = refl
-      go true (Some moment) = refl
-      go false o = refl
 
   -- there are at most 63 requests: the last number with its instance ID is its own
   number_is : (number : ℕ) → number < count_after openings → count_after openings ≤ number + 32 → number ≡ last_with (count_after openings) (number % 32)
@@ -166,25 +156,67 @@ module _ (own device : ℕ) (timing : Timing) (pace : Pace) (now : ℕ) (opening
       go true e = let i = ltb-true (32 + number % 32) (count_after openings) e in omega (arith, i, l, r, long_by)
       go false e = let i = ltb-false (32 + number % 32) (count_after openings) e in omega (arith, i, l, r, long_by)
 
-  paced_again : (number : ℕ) → IsPaced number (remembered_in (count_after openings) slots number)
-  paced_again number = subst (IsPaced number) (sym (remembered_again number)) (go (is_recent (count_after openings) number) refl (slice_get openings.moments.items (number % 32)) (are.each (number % 32)))
+  pub remembered_again : (number : ℕ) → remembered_in (count_after openings) slots number ≡ (resumed_held own device timing pace now openings).remembered number
+  remembered_again number =
+      ap (λ o. cond (is_recent (count_after openings) number) o None) (each (number % 32)) ∙ go (is_recent (count_after openings) number) refl
     where
-      go : (b : Bool) → is_recent (count_after openings) number ≡ b → (o : Option ℕ) → IfSome o (λ moment. (moment ≤ 4000000000000000) × (last_with (count_after openings) (number % 32) < most_opened moment))
-          → IsPaced number (cond b (option_map (shut_memo own device (number % 32)) o) None)
-      go true e None k = tt
-      go true e (Some moment) k =
-          let parts = recent_parts (count_after openings) number e in
-          let up = number_is number parts.0 parts.1 in
-          omega (arith, k.1, up)
-      go false e o k = tt
+      o : Option Memo
+      o = option_map (shut_memo own device (number % 32)) (slice_get openings.moments.items (number % 32))
 
-  pub is_station : (station : RequesterView) → IsInPace station.timing station.pace → station.count ≡ count_after openings → station.slots ≡ slots → station.last ≡ now → IsStation station
-  is_station station in_pace c s l = record {
+      go : (b : Bool) → is_recent (count_after openings) number ≡ b
+          → cond b (outline_if (not (is_kept pace (count_after openings) (last_with (count_after openings) (number % 32)))) o) None
+          ≡ cond b (outline_if (not (is_kept pace (count_after openings) number)) o) None
+      go true e =
+          let parts = recent_parts (count_after openings) number e in
+          ap (λ n. outline_if (not (is_kept pace (count_after openings) n)) o) (sym (number_is number parts.0 parts.1))
+      go false e = refl
+
+  shut_again : (number : ℕ) → passes is_open (remembered_in (count_after openings) slots number) ≡ false
+  shut_again number = ap (passes is_open) (remembered_again number) ∙ go (is_recent (count_after openings) number) (not (is_kept pace (count_after openings) number)) (slice_get openings.moments.items (number % 32))
+    where
+      go : (b k : Bool) (o : Option ℕ) → passes is_open (cond b (outline_if k (option_map (shut_memo own device (number % 32)) o)) None) ≡ false
+      go true true None = refl
+      go true false None = refl
+      go true true (Some moment) = refl
+      go true false (Some moment) = refl
+      go false k o = refl
+
+  paced_again : (number : ℕ) → IsPaced number (remembered_in (count_after openings) slots number)
+  paced_again number = subst (IsPaced number) (sym (remembered_again number)) (go (is_recent (count_after openings) number) refl)
+    where
+      o : Option Memo
+      o = option_map (shut_memo own device (number % 32)) (slice_get openings.moments.items (number % 32))
+
+      one : (x : Option ℕ) → IfSome x (λ moment. (moment ≤ 4000000000000000) × (last_with (count_after openings) (number % 32) < most_opened moment)) → number ≡ last_with (count_after openings) (number % 32)
+          → IsPaced number (option_map (shut_memo own device (number % 32)) x)
+      one None k up = tt
+      one (Some moment) k up = omega (arith, k.1, up)
+
+      go : (b : Bool) → is_recent (count_after openings) number ≡ b → IsPaced number (cond b (outline_if (not (is_kept pace (count_after openings) number)) o) None)
+      go true e =
+          let parts = recent_parts (count_after openings) number e in
+          paced_outlined number (not (is_kept pace (count_after openings) number)) o (one (slice_get openings.moments.items (number % 32)) (are.each (number % 32)) (number_is number parts.0 parts.1))
+      go false e = tt
+
+  whole_again : (number : ℕ) → IsWholeBy pace (count_after openings) number (remembered_in (count_after openings) slots number)
+  whole_again number = subst (IsWholeBy pace (count_after openings) number) (sym (remembered_again number)) (go (is_recent (count_after openings) number) (is_kept pace (count_after openings) number) refl (slice_get openings.moments.items (number % 32)))
+    where
+      go : (b k : Bool) → is_kept pace (count_after openings) number ≡ k → (o : Option ℕ) → IsWholeBy pace (count_after openings) number (cond b (outline_if (not k) (option_map (shut_memo own device (number % 32)) o)) None)
+      go true true e None = tt
+      go true false e None = tt
+      go true true e (Some moment) = sym e
+      go true false e (Some moment) = sym e
+      go false k e o = tt
+
+  pub is_station : (station : RequesterView) → IsInPace station.timing station.pace → station.pace ≡ pace → station.count ≡ count_after openings → station.slots ≡ slots → station.last ≡ now → IsStation station
+  is_station station in_pace p c s l = record {
     pace = in_pace;
     slots = subst (λ (n : ℕ). AreSlots n station.slots) (sym c) (subst (AreSlots (count_after openings)) (sym s) slots_are);
     few = omega (arith, are.few, c, l);
     paced = λ number. subst (IsPaced number) (sym (same number c s)) (paced_again number);
     shut = λ number old. ap (passes is_open) (same number c s) ∙ shut_again number;
+    whole = λ number. subst (λ (n : ℕ). IsWholeBy station.pace n number (remembered_in station.count station.slots number)) (sym c)
+        (subst (λ (x : Pace). IsWholeBy x (count_after openings) number (remembered_in station.count station.slots number)) (sym p) (subst (IsWholeBy pace (count_after openings) number) (sym (same number c s)) (whole_again number)));
   }
     where
       same : (number : ℕ) → station.count ≡ count_after openings → station.slots ≡ slots → remembered_in station.count station.slots number ≡ remembered_in (count_after openings) slots number

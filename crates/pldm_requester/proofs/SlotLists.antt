@@ -1,10 +1,13 @@
 -- What is remembered of each request, once a slot was written.
-use Rattle.std.proofs.Common.{◌≡◌, ◌⊎◌, ℕ, zero, suc, ◌+◌, ◌%◌, ◌<◌, ◌≤◌, Bool, true, false, cond, List, [], ◌∷◌, ◌++◌, length, Some, None, refl, sym, ap, ◌∙◌, inl, inr, arith, length-append, eq-eqb}
-use Rattle.std.specs.Prelude.{◌==◌, nat_lt, nat_le, slice_get, slice_set}
+use Rattle.std.proofs.Common.{◌≡◌, ◌⊎◌, ℕ, zero, suc, ◌+◌, ◌-◌, ◌%◌, ◌<◌, ◌≤◌, Bool, true, false, cond, List, [], ◌∷◌, ◌++◌, length, Option, Some, None, refl, sym, ap, ◌∙◌, inl, inr, arith, lit≤, length-append, eq-eqb}
+use Rattle.std.specs.Prelude.{◌==◌, nat_lt, nat_le, option_map, slice_get, slice_set}
 use Rattle.std.proofs.Math.ListN.{length-set}
-use Rattle.std.proofs.lemmas.Bool.{and_parts, and_from, cases_eq, cond-true, cond-false, ne_eqb, ltb-true, ltb-false, leb-true, lt-ltb, le-leb}
-use Rattle.pldm_requester.specs.Steps.{Memo, is_recent}
-use Rattle.pldm_requester.specs.Slots.{remembered_in, put_slot, AreSlots}
+use Rattle.std.proofs.lemmas.Bool.{and_parts, and_from, cases_eq, cond-true, cond-false, ne_eqb, ltb-true, ltb-false, leb-true, leb-false, lt-ltb, le-leb, lt-leb}
+use Rattle.std.proofs.lemmas.Option.{slice_get_within}
+use Rattle.pldm_requester.specs.Pacing.{kept}
+use Rattle.pldm_requester.specs.Steps.{Memo, is_kept, is_recent, outline, outline_if}
+use Rattle.pldm_requester.specs.Slots.{remembered_in, freed, outlined_at, put_slot, AreSlots}
+use Rattle.pldm_requester.specs.declared.pace.Pace.{Pace}
 
 -- ---- a list with a write or one more
 pub slice_get-set_at : {X : Type 0} (xs : List X) (i : ℕ) (x : X) → i < length xs → slice_get (slice_set xs i x) i ≡ Some x
@@ -150,3 +153,88 @@ remembered_there count slots n are l r = (found.0, cond-true (is_recent count n)
 
     found : (memo : Memo) × (slice_get slots (n % 32) ≡ Some memo)
     found = slot_there slots (n % 32) within
+
+-- ---- what is kept no longer
+pub kept_range : (pace : Pace) → (8 ≤ kept pace) × (kept pace ≤ 32)
+kept_range pace = go pace.brief
+  where
+    go : (b : Bool) → (8 ≤ cond b 8 32) × (cond b 8 32 ≤ 32)
+    go true = (lit≤ tt, lit≤ tt)
+    go false = (lit≤ tt, lit≤ tt)
+
+outlined_length : (place : ℕ) (slots : List Memo) (o : Option Memo) → length (outlined_at place slots o) ≡ length slots
+outlined_length place slots None = refl
+outlined_length place slots (Some memo) = length-set slots place (outline memo)
+
+freed_length : (pace : Pace) (count : ℕ) (slots : List Memo) → length (freed pace count slots) ≡ length slots
+freed_length pace count slots = go (nat_lt count (kept pace))
+  where
+    place : ℕ
+    place = (count - kept pace) % 32
+
+    go : (b : Bool) → length (cond b slots (outlined_at place slots (slice_get slots place))) ≡ length slots
+    go true = refl
+    go false = outlined_length place slots (slice_get slots place)
+
+pub AreSlots-freed : (pace : Pace) (count : ℕ) (slots : List Memo) → AreSlots count slots → AreSlots count (freed pace count slots)
+AreSlots-freed pace count slots are = record {
+  some = λ few. freed_length pace count slots ∙ are.some few;
+  all = λ many. freed_length pace count slots ∙ are.all many;
+}
+
+-- the slot of the request that is kept no longer
+pub last_kept : (pace : Pace) (count : ℕ) (slots : List Memo) → AreSlots count slots → kept pace ≤ count
+    → (memo : Memo) × (remembered_in count slots (count - kept pace) ≡ Some memo)
+last_kept pace count slots are many =
+    let k = kept_range pace in
+    remembered_there count slots (count - kept pace) are (omega (arith, k.0, many)) (omega (arith, k.1, many))
+
+pub freed_is : (pace : Pace) (count n : ℕ) (slots : List Memo) → AreSlots count slots
+    → remembered_in count (freed pace count slots) n ≡ outline_if (n + kept pace == count) (remembered_in count slots n)
+freed_is pace count n slots are = go (nat_lt count (kept pace)) refl
+  where
+    place : ℕ
+    place = (count - kept pace) % 32
+
+    none : count < kept pace → remembered_in count slots n ≡ outline_if (n + kept pace == count) (remembered_in count slots n)
+    none few = ap (λ b. outline_if b (remembered_in count slots n)) (sym (ne_eqb (n + kept pace) count (λ e. omega (arith, few, e))))
+
+    some : kept pace ≤ count → remembered_in count (outlined_at place slots (slice_get slots place)) n ≡ outline_if (n + kept pace == count) (remembered_in count slots n)
+    some many =
+        ap (λ o. remembered_in count (outlined_at place slots o) n) parts.1
+        ∙ remembered_in-set count (count - kept pace) n slots (outline found.0) parts.0 (slice_get_within slots place found.0 parts.1)
+        ∙ by (cases_eq n (count - kept pace))
+      where
+        found : (memo : Memo) × (remembered_in count slots (count - kept pace) ≡ Some memo)
+        found = last_kept pace count slots are many
+
+        parts : (is_recent count (count - kept pace) ≡ true) × (slice_get slots place ≡ Some found.0)
+        parts = remembered_parts count slots (count - kept pace) found.0 found.1
+
+        by : (n ≡ count - kept pace) ⊎ (n ≡ count - kept pace → ⊥) → cond (n == count - kept pace) (Some (outline found.0)) (remembered_in count slots n) ≡ outline_if (n + kept pace == count) (remembered_in count slots n)
+        by (inl same) =
+            let here : n + kept pace ≡ count = omega (arith, same, many) in
+            cond-true (n == count - kept pace) _ _ (eq-eqb n (count - kept pace) same)
+            ∙ ap (option_map outline) (sym found.1) ∙ ap (λ k. option_map outline (remembered_in count slots k)) (sym same)
+            ∙ ap (λ b. outline_if b (remembered_in count slots n)) (sym (eq-eqb (n + kept pace) count here))
+        by (inr other) =
+            cond-false (n == count - kept pace) _ _ (ne_eqb n (count - kept pace) other)
+            ∙ ap (λ b. outline_if b (remembered_in count slots n)) (sym (ne_eqb (n + kept pace) count (λ e. other (omega (arith, e)))))
+
+    go : (b : Bool) → nat_lt count (kept pace) ≡ b → remembered_in count (cond b slots (outlined_at place slots (slice_get slots place))) n ≡ outline_if (n + kept pace == count) (remembered_in count slots n)
+    go true e = none (ltb-true count (kept pace) e)
+    go false e = some (ltb-false count (kept pace) e)
+
+-- one more request is kept, and one less
+pub kept_then : (pace : Pace) (count n : ℕ) → (n + kept pace ≡ count → ⊥) → is_kept pace count n ≡ is_kept pace (count + 1) n
+kept_then pace count n other = go (nat_le count (n + kept pace)) refl
+  where
+    go : (b : Bool) → nat_le count (n + kept pace) ≡ b → b ≡ nat_le (count + 1) (n + kept pace)
+    go true e = let i = leb-true count (n + kept pace) e in sym (le-leb (count + 1) (n + kept pace) (omega (arith, i, other)))
+    go false e = let i = leb-false count (n + kept pace) e in sym (lt-leb (count + 1) (n + kept pace) (omega (arith, i)))
+
+pub not_kept_then : (pace : Pace) (count n : ℕ) → n + kept pace ≡ count → is_kept pace (count + 1) n ≡ false
+not_kept_then pace count n e = lt-leb (count + 1) (n + kept pace) (omega (arith, e))
+
+pub kept_new : (pace : Pace) (count n : ℕ) → count ≤ n + 8 → is_kept pace count n ≡ true
+kept_new pace count n near = let k = kept_range pace in le-leb count (n + kept pace) (omega (arith, k.0, near))

@@ -1,9 +1,9 @@
 -- What a requester holds once a slot was written: a request was answered, or one more was opened.
 use Rattle.std.specs.FinMap as map
-use Rattle.std.proofs.Common.{◌≡◌, ℕ, ◌+◌, ◌-◌, ◌%◌, ◌<◌, ◌≤◌, Bool, true, false, cond, not, List, [], ◌∷◌, ◌++◌, length, Option, Some, None, Result, Ok, refl, sym, ap, ◌∙◌, subst, ⊎_elim, arith, eqb-true}
-use Rattle.std.specs.Prelude.{◌==◌, nat_le, filter, option_map, slice_get, slice_set, slice_index_or}
+use Rattle.std.proofs.Common.{◌≡◌, ℕ, ◌+◌, ◌-◌, ◌%◌, ◌<◌, ◌≤◌, Bool, true, false, cond, not, List, [], ◌∷◌, ◌++◌, length, Option, Some, None, Result, Ok, refl, sym, ap, ◌∙◌, subst, inl, inr, ◌⊎◌, ⊎_elim, arith, eq-eqb, eqb-true}
+use Rattle.std.specs.Prelude.{◌==◌, ◌&&◌, is_some, nat_le, filter, option_map, slice_get, slice_set, slice_index_or}
 use Rattle.std.specs.List.{range_with_len}
-use Rattle.std.proofs.lemmas.Bool.{and_cases, cases_eq, cond-false, leb-false, ne_eqb}
+use Rattle.std.proofs.lemmas.Bool.{and_cases, cases_eq, cond-false, le-leb, leb-false, ne_eqb}
 use Rattle.std.proofs.lemmas.List.{map-id}
 use Rattle.std.proofs.lemmas.List.FromFn.{filter_of_map_range_with_len_more}
 use Rattle.std.proofs.lemmas.Option.{slice_get_within, get_or_from_slice_get}
@@ -17,9 +17,12 @@ use Rattle.pldm_requester.specs.Arrivals.{Drop, Answer, response_arrival}
 use Rattle.pldm_requester.specs.Calls.{answer_key}
 use Rattle.pldm_requester.specs.Courses.{begun, is_open, answered}
 use Rattle.pldm_requester.specs.Numbering.{id_of, tag_of}
-use Rattle.pldm_requester.specs.Steps.{Memo, IsHeld, is_recent, passes, is_open_in, is_tag_in_use, is_mine, is_mine_by, with_course, remembered_after, opened_with, memo_with}
-use Rattle.pldm_requester.specs.Slots.{RequesterView, held_of, remembered_in, put_slot, AreSlots, IsPaced, IsStation, most_opened}
-use Rattle.pldm_requester.proofs.SlotLists.{remembered_parts, remembered_in-set, remembered_in-put, AreSlots-put}
+use Rattle.pldm_requester.specs.Steps.{Memo, IsHeld, is_kept, is_recent, outline, outline_if, passes, is_open_in, is_tag_in_use, is_mine, is_mine_by, is_there, whole, with_course, remembered_after, opened_with, memo_with}
+use Rattle.pldm_requester.specs.Slots.{RequesterView, held_of, remembered_in, freed, put_slot, AreSlots, IsPaced, IsStation, IsWholeAt, IsWholeBy, most_opened}
+use Rattle.pldm_requester.specs.Pacing.{kept}
+use Rattle.pldm_requester.specs.declared.pace.Pace.{Pace}
+use Rattle.pldm_requester.proofs.Outlines.{paced_outlined, passes_outlined}
+use Rattle.pldm_requester.proofs.SlotLists.{kept_new, kept_then, not_kept_then, last_kept, recent_parts, remembered_there, remembered_parts, remembered_in-set, remembered_in-put, AreSlots-freed, AreSlots-put, freed_is}
 
 -- ---- a response of its own that says nothing of NotReady answers its request
 pub is_answer : (mine : ℕ → Response → Bool) (number : ℕ) (message : List ℕ) (read : Result Response Reason) (response : Response) → read ≡ Ok response → mine number response ≡ true → (response.code ≡ 4 → ⊥)
@@ -69,6 +72,22 @@ answered_held station number message response memo seen read mine other same at 
     is = sym (get_or_from_slice_get station.slots (number % 32) found.0 seen parts.1) ∙ sym at ∙ sym same
 
 -- ---- one more request
+opened_in : (station : RequesterView) (n : ℕ) (memo : Memo) → AreSlots station.count station.slots
+    → remembered_in (station.count + 1) (put_slot station.count (freed station.pace station.count station.slots) memo) n
+    ≡ cond (n == station.count) (Some memo) (cond (is_recent (station.count + 1) n) (outline_if (n + kept station.pace == station.count) (remembered_in station.count station.slots n)) None)
+opened_in station n memo are =
+    remembered_in-put station.count n (freed station.pace station.count station.slots) memo (AreSlots-freed station.pace station.count station.slots are)
+    ∙ ap (λ o. cond (n == station.count) (Some memo) (cond (is_recent (station.count + 1) n) o None)) (freed_is station.pace station.count n station.slots are)
+
+-- the last one that is kept is whole, before it is let go
+pub last_is_whole : (station : RequesterView) → IsStation station → kept station.pace ≤ station.count → IsWholeAt ((station.count - kept station.pace) % 32) station.slots
+last_is_whole station is many =
+    let n = station.count - kept station.pace in
+    let found = last_kept station.pace station.count station.slots is.slots many in
+    let parts = remembered_parts station.count station.slots n found.0 found.1 in
+    let whole = subst (IsWholeBy station.pace station.count n) found.1 (is.whole n) in
+    (found.0, parts.1, whole ∙ le-leb station.count (n + kept station.pace) (omega (arith, many)))
+
 paced_by : (b r : Bool) (count n now : ℕ) (memo : Memo) (o : Option Memo) → (b ≡ true → n ≡ count) → memo.course.opening ≡ now → count < most_opened now → IsPaced n o
     → IsPaced n (cond b (Some memo) (cond r o None))
 paced_by true r count n now memo o same at few paced = let here = same refl in omega arith
@@ -89,25 +108,46 @@ shut_by false true memo o other shut = shut
 shut_by false false memo o other shut = refl
 
 shut_opened : (station : RequesterView) (n : ℕ) (memo : Memo) → IsStation station → is_tag_in_use (held_of station) ≡ false → n + 8 < station.count + 1
-    → passes is_open (remembered_in (station.count + 1) (put_slot station.count station.slots memo) n) ≡ false
+    → passes is_open (remembered_in (station.count + 1) (put_slot station.count (freed station.pace station.count station.slots) memo) n) ≡ false
 shut_opened station n memo is free old =
-    ap (passes is_open) (remembered_in-put station.count n station.slots memo is.slots)
-    ∙ shut_by (n == station.count) (is_recent (station.count + 1) n) memo (remembered_in station.count station.slots n) (ne_eqb n station.count (λ e. omega arith))
-    (⊎_elim (λ (e : n + 8 ≡ station.count). tag_free station n free e) (λ (e : n + 8 ≡ station.count → ⊥). is.shut n (omega arith)) (cases_eq (n + 8) station.count))
+    ap (passes is_open) (opened_in station n memo is.slots)
+    ∙ shut_by (n == station.count) (is_recent (station.count + 1) n) memo (outline_if (n + kept station.pace == station.count) (remembered_in station.count station.slots n)) (ne_eqb n station.count (λ e. omega arith))
+    (passes_outlined is_open (λ course e. e) (n + kept station.pace == station.count) (remembered_in station.count station.slots n) ∙ ⊎_elim (λ (e : n + 8 ≡ station.count). tag_free station n free e) (λ (e : n + 8 ≡ station.count → ⊥). is.shut n (omega arith)) (cases_eq (n + 8) station.count))
 
-pub opened_station : (station : RequesterView) (now : ℕ) (memo : Memo) (open_messages : assembly.OpenMessages) → IsStation station → memo.course.opening ≡ now → station.count < most_opened now → is_tag_in_use (held_of station) ≡ false
-    → IsStation (record station { count = station.count + 1; slots = put_slot station.count station.slots memo; open_messages = open_messages; last = now })
-opened_station station now memo open_messages is at few free = record {
+whole_by : (pace : Pace) (count n : ℕ) (memo : Memo) (o : Option Memo) → memo.is_whole ≡ true → (b r : Bool) → (b ≡ true → n ≡ count) → IsWholeBy pace count n o
+    → IsWholeBy pace (count + 1) n (cond b (Some memo) (cond r (outline_if (n + kept pace == count) o) None))
+whole_by pace count n memo o is true r same old = let here = same refl in is ∙ sym (kept_new pace (count + 1) n (omega (arith, here)))
+whole_by pace count n memo o is false false same old = tt
+whole_by pace count n memo o is false true same old = go (cases_eq (n + kept pace) count)
+  where
+    outlined : (o : Option Memo) → n + kept pace ≡ count → IsWholeBy pace (count + 1) n (option_map outline o)
+    outlined None e = tt
+    outlined (Some memo) e = sym (not_kept_then pace count n e)
+
+    left : (o : Option Memo) → (n + kept pace ≡ count → ⊥) → IsWholeBy pace count n o → IsWholeBy pace (count + 1) n o
+    left None other old = tt
+    left (Some memo) other old = old ∙ kept_then pace count n other
+
+    go : (n + kept pace ≡ count) ⊎ (n + kept pace ≡ count → ⊥) → IsWholeBy pace (count + 1) n (outline_if (n + kept pace == count) o)
+    go (inl e) = subst (λ (b : Bool). IsWholeBy pace (count + 1) n (outline_if b o)) (sym (eq-eqb (n + kept pace) count e)) (outlined o e)
+    go (inr other) = subst (λ (b : Bool). IsWholeBy pace (count + 1) n (outline_if b o)) (sym (ne_eqb (n + kept pace) count other)) (left o other old)
+
+pub opened_station : (station : RequesterView) (now : ℕ) (memo : Memo) (open_messages : assembly.OpenMessages) → IsStation station → memo.course.opening ≡ now → memo.is_whole ≡ true → station.count < most_opened now → is_tag_in_use (held_of station) ≡ false
+    → IsStation (record station { count = station.count + 1; slots = put_slot station.count (freed station.pace station.count station.slots) memo; open_messages = open_messages; last = now })
+opened_station station now memo open_messages is at whole few free = record {
   pace = is.pace;
-  slots = AreSlots-put station.count station.slots memo is.slots;
+  slots = AreSlots-put station.count (freed station.pace station.count station.slots) memo (AreSlots-freed station.pace station.count station.slots is.slots);
   few = omega arith;
-  paced = λ n. subst (IsPaced n) (sym (remembered_in-put station.count n station.slots memo is.slots))
-      (paced_by (n == station.count) (is_recent (station.count + 1) n) station.count n now memo (remembered_in station.count station.slots n) (eqb-true n station.count) at few (is.paced n));
+  paced = λ n. subst (IsPaced n) (sym (opened_in station n memo is.slots))
+      (paced_by (n == station.count) (is_recent (station.count + 1) n) station.count n now memo (outline_if (n + kept station.pace == station.count) (remembered_in station.count station.slots n)) (eqb-true n station.count) at few
+      (paced_outlined n (n + kept station.pace == station.count) (remembered_in station.count station.slots n) (is.paced n)));
   shut = λ n old. shut_opened station n memo is free old;
+  whole = λ n. subst (IsWholeBy station.pace (station.count + 1) n) (sym (opened_in station n memo is.slots))
+      (whole_by station.pace station.count n memo (remembered_in station.count station.slots n) whole (n == station.count) (is_recent (station.count + 1) n) (eqb-true n station.count) (is.whole n));
 }
 
 pub opened_is_held : (station : RequesterView) (now : ℕ) (ask : Ask) (slots : List Memo) (open_messages : assembly.OpenMessages) → AreSlots station.count station.slots
-    → slots ≡ put_slot station.count station.slots (memo_with (held_of station) now ask)
+    → slots ≡ put_slot station.count (freed station.pace station.count station.slots) (memo_with (held_of station) now ask)
     → open_messages ≡ map.remove station.open_messages (answer_key station.device (tag_of station.count))
     → IsHeld (held_of (record station { count = station.count + 1; slots = slots; open_messages = open_messages; last = now })) (opened_with (held_of station) now ask)
 opened_is_held station now ask slots open_messages are put forgot = record {
@@ -116,14 +156,32 @@ opened_is_held station now ask slots open_messages are put forgot = record {
   timing = refl;
   pace = refl;
   count = refl;
-  remembered = λ n. ap (λ xs. remembered_in (station.count + 1) xs n) put ∙ remembered_in-put station.count n station.slots (memo_with (held_of station) now ask) are;
+  remembered = λ n. ap (λ xs. remembered_in (station.count + 1) xs n) put ∙ opened_in station n (memo_with (held_of station) now ask) are;
   open_messages = forgot;
   last = refl;
 }
 
 pub memo_is : (station : RequesterView) (now : ℕ) (ask : Ask) (tag : ℕ) → tag ≡ tag_of station.count
-    → (let memo : Memo = record { kind = ask.kind; packets = written_packets (record { destination = station.device; source = station.own; owner = true; tag = tag }) (ask_message (id_of station.count) ask); course = begun now } in memo ≡ memo_with (held_of station) now ask)
-memo_is station now ask tag e = λ i. record { kind = ask.kind; packets = written_packets (record { destination = station.device; source = station.own; owner = true; tag = e i }) (ask_message (id_of station.count) ask); course = begun now }
+    → (let memo : Memo = record { kind = ask.kind; packets = written_packets (record { destination = station.device; source = station.own; owner = true; tag = tag }) (ask_message (id_of station.count) ask); course = begun now; is_whole = true } in memo ≡ memo_with (held_of station) now ask)
+memo_is station now ask tag e = λ i. record { kind = ask.kind; packets = written_packets (record { destination = station.device; source = station.own; owner = true; tag = e i }) (ask_message (id_of station.count) ask); course = begun now; is_whole = true }
+
+-- ---- which requests are remembered whole
+pub there_is : (station : RequesterView) → IsStation station → (n : ℕ) → is_some (whole (remembered_in station.count station.slots n)) ≡ is_there (held_of station) n
+there_is station is n = go (is_recent station.count n) refl
+  where
+    whole_is : (memo : Memo) (b : Bool) → memo.is_whole ≡ b → is_some (whole (Some memo)) ≡ b
+    whole_is memo true e = ap (λ b. is_some (cond b (Some memo) None)) e
+    whole_is memo false e = ap (λ b. is_some (cond b (Some memo) None)) e
+
+    some : is_recent station.count n ≡ true → is_some (whole (remembered_in station.count station.slots n)) ≡ is_kept station.pace station.count n
+    some e =
+        let parts = recent_parts station.count n e in
+        let found = remembered_there station.count station.slots n is.slots parts.0 parts.1 in
+        ap (λ o. is_some (whole o)) found.1 ∙ whole_is found.0 (is_kept station.pace station.count n) (subst (IsWholeBy station.pace station.count n) found.1 (is.whole n))
+
+    go : (b : Bool) → is_recent station.count n ≡ b → is_some (whole (remembered_in station.count station.slots n)) ≡ (b && is_kept station.pace station.count n)
+    go true e = some e
+    go false e = ap (λ o. is_some (whole o)) (cond-false (is_recent station.count n) _ _ e)
 
 -- ---- the numbers that pass a test
 pub filter_more : (test : ℕ → Bool) (a n j : ℕ) → a + n ≡ j → filter test (range_with_len a (n + 1)) ≡ filter test (range_with_len a n) ++ cond (test j) (j ∷ []) []

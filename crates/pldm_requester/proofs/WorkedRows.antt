@@ -93,7 +93,7 @@ answered_since opening answered = record {
 
 -- a line that loses or delivers within 100 ms, and a device that keeps answers for 4 instance IDs
 abbrev fast : Pace
-fast = record { lifetime = 100; window = 4; spread = false }
+fast = record { lifetime = 100; window = 4; spread = false; brief = false }
 
 abbrev id_in_use : Requests → ℕ → Bool
 id_in_use a moment = is_id_in_use 1000 fast a moment
@@ -116,7 +116,7 @@ freed_by_time = refl
 
 -- spread over a lifetime: at most 16 requests, and fewer where the window leaves fewer
 abbrev spread_fast : ℕ → Pace
-spread_fast window = record { lifetime = 100; window = window; spread = true }
+spread_fast window = record { lifetime = 100; window = window; spread = true; brief = false }
 
 strides : (stride fast ∷ stride (spread_fast 4) ∷ stride (spread_fast 16) ∷ stride (spread_fast 24) ∷ stride (spread_fast 32) ∷ []) ≡ 0 ∷ 16 ∷ 16 ∷ 8 ∷ 0 ∷ []
 strides = refl
@@ -130,7 +130,7 @@ spread_goes_on = refl
 
 -- ---- paces, with 3 tries of 200 ms each
 abbrev with_lifetime : ℕ → ℕ → Pace
-with_lifetime lifetime window = record { lifetime = lifetime; window = window; spread = false }
+with_lifetime lifetime window = record { lifetime = lifetime; window = window; spread = false; brief = false }
 
 no_lifetime : pace_fault timing (with_lifetime 0 33) ≡ Some NoLifetime
 no_lifetime = refl

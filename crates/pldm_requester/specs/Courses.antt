@@ -1,6 +1,6 @@
 -- The course of one request: it is open from its opening until it is answered or given up, and is sent again meanwhile.
 -- The times are this profile's own.
-use Rattle.std.specs.Prelude.{ℕ, ◌+◌, ◌*◌, List, Bool, true, false, ◌&&◌, not, nat_le, if◌then◌else◌}
+use Rattle.std.specs.Prelude.{ℕ, ◌+◌, ◌*◌, List, [], Bool, true, false, ◌&&◌, not, nat_le, if◌then◌else◌}
 use Rattle.pldm_requester.specs.declared.timing.Timing.{Timing}
 
 -- open, answered by this message, or given up
@@ -59,6 +59,16 @@ sent_again moment course = record { opening = course.opening; last_sent = moment
 abbrev pub answered : List ℕ → Course → Course
 answered message course =
     record { opening = course.opening; last_sent = course.last_sent; progress = Answered message }
+
+-- without the message that answered it
+abbrev pub emptied : Progress → Progress
+emptied Waiting = Waiting
+emptied (Answered message) = Answered []
+emptied GaveUp = GaveUp
+
+abbrev pub without_answer : Course → Course
+without_answer course =
+    record { opening = course.opening; last_sent = course.last_sent; progress = emptied course.progress }
 
 -- what a tick makes of it
 abbrev pub ticked : Timing → ℕ → Course → Course

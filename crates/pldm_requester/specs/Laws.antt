@@ -1,5 +1,5 @@
 -- What a requester holds after any list of calls, read by looking back over the list, and which requests are open.
-use Rattle.std.specs.Prelude.{◌≡◌, ◌⊎◌, ℕ, ◌+◌, ◌-◌, ◌*◌, ◌<◌, ◌≤◌, ◌&&◌, nat_lt, nat_le, true, false, List, [], ◌∷◌, length, Option, Some, None, if◌then◌else◌}
+use Rattle.std.specs.Prelude.{◌≡◌, ◌⊎◌, ℕ, ◌+◌, ◌-◌, ◌*◌, ◌<◌, ◌≤◌, ◌&&◌, not, nat_lt, nat_le, true, false, List, [], ◌∷◌, length, Option, Some, None, if◌then◌else◌}
 use Rattle.mctp_assembly.specs.Histories as assembly
 use Rattle.pldm_wire.specs.declared.assigned.TheConstants.{INSTANCE_IDS}
 use Rattle.pldm_requester.specs.Asks.{Ask}
@@ -8,21 +8,24 @@ use Rattle.pldm_requester.specs.Courses.{is_open}
 use Rattle.pldm_requester.specs.Pacing.{at_default, newest, answered_after, stride}
 use Rattle.pldm_requester.specs.Calls.{Call, OpenRequest, Tick, Receive, Requests, accepts, answer_key, course_at, is_id_in_use, is_open_at, open_on, numbers_of, requests, last_moment, assembled, open_expected, again_expected, given_up_expected, got_expected}
 use Rattle.pldm_requester.specs.Steps as steps
-use Rattle.pldm_requester.specs.Steps.{Memo, RequesterState, IsHeld, paced_at_first, is_recent, opening_answer, opened_with, again_at, given_up_at, ticked_held, got_at, received_held}
+use Rattle.pldm_requester.specs.Steps.{Memo, RequesterState, IsHeld, paced_at_first, is_kept, is_recent, outline_if, opening_answer, opened_with, again_at, given_up_at, ticked_held, got_at, received_held}
 use Rattle.pldm_requester.specs.declared.pace.Pace.{Pace}
 use Rattle.pldm_requester.specs.declared.timing.Timing.{Timing}
 use Rattle.pldm_requester.specs.declared.requester.TheConstants.{MAX_OPEN}
 
--- what is remembered of a request: of the last ones all, of older ones nothing
+-- what is remembered of a request: of the last ones all, of some before them the outline, of older ones nothing
 abbrev pub memo_of : ℕ → ℕ → Requests → ℕ → Memo
 memo_of own device a number = record {
   kind = (a.each number).ask.kind;
   packets = packets_with own device number (a.each number).ask;
   course = (a.each number).course;
+  is_whole = true;
 }
 
-abbrev pub memo_at : ℕ → ℕ → Requests → ℕ → Option Memo
-memo_at own device a number = if is_recent a.count number then Some (memo_of own device a number) else None
+abbrev pub memo_at : ℕ → ℕ → Pace → Requests → ℕ → Option Memo
+memo_at own device pace a number =
+    if is_recent a.count number
+    then outline_if (not (is_kept pace a.count number)) (Some (memo_of own device a number)) else None
 
 -- what is held is what the calls leave of a requester with these endpoint IDs, this timing and this pace
 pub record IsLeftBy (own device : ℕ) (timing : Timing) (pace : Pace) (held : RequesterState) (calls : List Call) : Type 0 where
@@ -31,7 +34,7 @@ pub record IsLeftBy (own device : ℕ) (timing : Timing) (pace : Pace) (held : R
   pub times : held.timing ≡ timing
   pub paced : held.pace ≡ pace
   pub count : held.count ≡ (requests own device timing pace calls).count
-  pub remembered : (number : ℕ) → held.remembered number ≡ memo_at own device (requests own device timing pace calls) number
+  pub remembered : (number : ℕ) → held.remembered number ≡ memo_at own device pace (requests own device timing pace calls) number
   pub open_messages : assembly.IsLeftBy held.open_messages (assembled own device timing pace calls)
   pub last : held.last ≡ last_moment own device timing pace calls
 

@@ -9,13 +9,14 @@ use Rattle.pldm_requester.specs.declared.pace.PaceFault.TheVariants.{NoLifetime,
 use Rattle.pldm_requester.specs.declared.pace.SettingFault.{SettingFault}
 use Rattle.pldm_requester.specs.declared.pace.SettingFault.TheVariants as settings
 use Rattle.pldm_requester.specs.declared.pace.TheConstants.{MOST_SPREAD}
+use Rattle.pldm_requester.specs.declared.requester.TheConstants.{MAX_OPEN, MAX_REMEMBERED}
 use Rattle.pldm_requester.specs.declared.timing.Timing.{Timing}
 use Rattle.pldm_requester.specs.declared.timing.TimingFault.{TimingFault}
 use Rattle.pldm_requester.specs.Timings.{timing_fault}
 
 -- by the keeping time alone
 abbrev pub at_default : ℕ → Pace
-at_default keep = record { lifetime = keep; window = INSTANCE_IDS; spread = false }
+at_default keep = record { lifetime = keep; window = INSTANCE_IDS; spread = false; brief = false }
 
 -- the last so many below a number, the newest first
 abbrev pub newest : {A : Type 0} → (each : ℕ → A) → (below most : ℕ) → List A
@@ -42,6 +43,10 @@ abbrev pub stride : Pace → ℕ
 stride pace =
     if not pace.spread then 0
     else (if nat_lt (INSTANCE_IDS - pace.window) MOST_SPREAD then INSTANCE_IDS - pace.window else MOST_SPREAD)
+
+-- of how many of the last requests the packets and the answer are kept
+abbrev pub kept : Pace → ℕ
+kept pace = if pace.brief then MAX_OPEN else MAX_REMEMBERED
 
 abbrev pub is_crowded : Pace → ℕ → Course → Bool
 is_crowded pace moment before = nat_lt moment (before.opening + pace.lifetime)
@@ -75,7 +80,7 @@ setting_fault own device timing pace = first_fault (timing_fault own device timi
 -- a pace is stored as its parts
 abbrev pub coded_pace : Coded Pace
 coded_pace =
-    code_by (ℕ × (ℕ × Bool)) (coded× coded_ℕ (coded× coded_ℕ coded_bool))
-    (λ p. (p.lifetime, (p.window, p.spread)))
-    (λ c. record { lifetime = c.0; window = c.1.0; spread = c.1.1 })
+    code_by (ℕ × (ℕ × (Bool × Bool))) (coded× coded_ℕ (coded× coded_ℕ (coded× coded_bool coded_bool)))
+    (λ p. (p.lifetime, (p.window, (p.spread, p.brief))))
+    (λ c. record { lifetime = c.0; window = c.1.0; spread = c.1.1.0; brief = c.1.1.1 })
     (λ _. refl)

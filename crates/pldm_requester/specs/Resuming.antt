@@ -1,14 +1,14 @@
 -- A requester that goes on where another one at its endpoint stopped, in another process say: what it is given, what it
 -- holds then, and which moments it may be given.
 use Rattle.std.specs.FinMap as map
-use Rattle.std.specs.Prelude.{◌≡◌, ℕ, ◌+◌, ◌<◌, ◌≤◌, true, length, nat_lt, slice_get, if◌then◌else◌, None, option_map, IfSome}
+use Rattle.std.specs.Prelude.{◌≡◌, ℕ, ◌+◌, ◌<◌, ◌≤◌, true, not, length, nat_lt, slice_get, if◌then◌else◌, None, option_map, IfSome}
 use Rattle.mctp_packet.specs.Ids.{IsMoment}
 use Rattle.pldm_wire.specs.Commands.{kind_of}
 use Rattle.pldm_wire.specs.declared.assigned.TheConstants.{INSTANCE_IDS}
 use Rattle.pldm_wire.specs.declared.command.Command.TheVariants.{GetTid}
 use Rattle.pldm_requester.specs.Numbering.{id_of, packets_of}
 use Rattle.pldm_requester.specs.Courses.{begun, given_up}
-use Rattle.pldm_requester.specs.Steps.{Memo, RequesterState, is_recent}
+use Rattle.pldm_requester.specs.Steps.{Memo, RequesterState, is_kept, is_recent, outline_if}
 use Rattle.pldm_requester.specs.Slots.{most_opened}
 use Rattle.pldm_requester.specs.declared.openings.Openings.{Openings}
 use Rattle.pldm_requester.specs.declared.pace.Pace.{Pace}
@@ -44,9 +44,11 @@ shut_memo own device id moment = record {
   kind = kind_of GetTid;
   packets = packets_of own device id GetTid;
   course = given_up (begun moment);
+  is_whole = true;
 }
 
--- what it holds: the last request with each instance ID that was used, all of them given up
+-- what it holds: the last request with each instance ID that was used, all of them given up; of those that are not kept
+-- whole the outline
 abbrev pub resumed_held : ℕ → ℕ → Timing → Pace → ℕ → Openings → RequesterState
 resumed_held own device timing pace now openings = record {
   own = own;
@@ -56,7 +58,8 @@ resumed_held own device timing pace now openings = record {
   count = count_after openings;
   remembered = λ number.
       if is_recent (count_after openings) number
-      then option_map (shut_memo own device (id_of number)) (slice_get openings.moments.items (id_of number))
+      then outline_if (not (is_kept pace (count_after openings) number))
+      (option_map (shut_memo own device (id_of number)) (slice_get openings.moments.items (id_of number)))
       else None;
   open_messages = map.empty;
   last = now;

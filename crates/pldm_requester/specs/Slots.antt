@@ -1,13 +1,13 @@
 -- How a requester keeps the last requests: each in the slot of its instance ID; and what contracts see of a requester.
 use Rattle.std.specs.FinMap as map
-use Rattle.std.specs.Prelude.{◌≡◌, ℕ, ◌+◌, ◌*◌, ◌%◌, ◌<◌, ◌≤◌, false, List, [], ◌∷◌, ◌++◌, length, nat_lt, slice_set, if◌then◌else◌, Option, Some, None, slice_get, IfSome, refl}
-use Rattle.std.specs.Coded.{Coded, code_by, coded×, coded_ℕ, coded_list, coded_option}
+use Rattle.std.specs.Prelude.{◌≡◌, ℕ, ◌+◌, ◌-◌, ◌*◌, ◌%◌, ◌<◌, ◌≤◌, Bool, true, false, List, [], ◌∷◌, ◌++◌, length, nat_lt, slice_set, if◌then◌else◌, Option, Some, None, slice_get, IfSome, refl}
+use Rattle.std.specs.Coded.{Coded, code_by, coded×, coded_ℕ, coded_bool, coded_list, coded_option}
 use Rattle.mctp_assembly.specs.Keys.{key_cmp, coded_key}
 use Rattle.mctp_assembly.specs.Opened.{Opened, coded_opened}
 use Rattle.pldm_wire.specs.Kinds.{of_type}
 use Rattle.pldm_requester.specs.Courses.{Progress, Waiting, Answered, GaveUp, is_open}
-use Rattle.pldm_requester.specs.Steps.{Memo, RequesterState, is_recent, passes}
-use Rattle.pldm_requester.specs.Pacing.{coded_pace}
+use Rattle.pldm_requester.specs.Steps.{Memo, RequesterState, is_kept, is_recent, outline, passes}
+use Rattle.pldm_requester.specs.Pacing.{coded_pace, kept}
 use Rattle.pldm_requester.specs.Timings.{coded_timing}
 use Rattle.pldm_requester.specs.declared.requester.TheConstants.{MAX_OPEN, MAX_REMEMBERED}
 use Rattle.pldm_requester.specs.declared.pace.Pace.{Pace}
@@ -37,23 +37,24 @@ coded_progress =
 -- what is remembered of a request is stored as its parts
 abbrev pub coded_memo : Coded Memo
 coded_memo =
-    code_by (ℕ × (ℕ × (List (List ℕ) × (ℕ × (ℕ × Progress)))))
+    code_by (ℕ × (ℕ × (List (List ℕ) × (ℕ × (ℕ × (Progress × Bool))))))
     (coded× coded_ℕ (coded× coded_ℕ (coded× (coded_list (coded_list coded_ℕ))
-    (coded× coded_ℕ (coded× coded_ℕ coded_progress)))))
+    (coded× coded_ℕ (coded× coded_ℕ (coded× coded_progress coded_bool))))))
     (λ m. (
       m.kind.pldm_type,
       (
         m.kind.command,
         (
           m.packets,
-          (m.course.opening, (m.course.last_sent, m.course.progress)),
+          (m.course.opening, (m.course.last_sent, (m.course.progress, m.is_whole))),
         ),
       ),
     ))
     (λ c. record {
       kind = of_type c.0 c.1.0;
       packets = c.1.1.0;
-      course = record { opening = c.1.1.1.0; last_sent = c.1.1.1.1.0; progress = c.1.1.1.1.1 };
+      course = record { opening = c.1.1.1.0; last_sent = c.1.1.1.1.0; progress = c.1.1.1.1.1.0 };
+      is_whole = c.1.1.1.1.1.1;
     })
     (λ _. refl)
 
@@ -110,6 +111,22 @@ abbrev pub put_slot : ℕ → List Memo → Memo → List Memo
 put_slot number slots memo =
     if nat_lt number MAX_REMEMBERED then slots ++ memo ∷ [] else slice_set slots (number % MAX_REMEMBERED) memo
 
+-- the slots with the outline alone of what stands at a place
+abbrev pub outlined_at : ℕ → List Memo → Option Memo → List Memo
+outlined_at place slots None = slots
+outlined_at place slots (Some memo) = slice_set slots place (outline memo)
+
+-- before a new request with this number: what was kept whole of the last so many, but for one request
+abbrev pub freed : Pace → ℕ → List Memo → List Memo
+freed pace number slots =
+    if nat_lt number (kept pace) then slots
+    else outlined_at ((number - kept pace) % MAX_REMEMBERED) slots
+    (slice_get slots ((number - kept pace) % MAX_REMEMBERED))
+
+-- what stands at a place is whole
+abbrev pub IsWholeAt : ℕ → List Memo → Type 0
+IsWholeAt place slots = (memo : Memo) × (slice_get slots place ≡ Some memo) × (memo.is_whole ≡ true)
+
 -- a slot for each of the last requests
 pub record AreSlots (count : ℕ) (slots : List Memo) : Type 0 where
   pub some : count ≤ MAX_REMEMBERED → length slots ≡ count
@@ -128,6 +145,10 @@ abbrev pub OlderAreShut : ℕ → List Memo → Type 0
 OlderAreShut count slots =
     (number : ℕ) → number + MAX_OPEN < count → passes is_open (remembered_in count slots number) ≡ false
 
+-- what is remembered whole is the last ones, as the pace says
+abbrev pub IsWholeBy : Pace → ℕ → ℕ → Option Memo → Type 0
+IsWholeBy pace count number memo = IfSome memo (λ memo. memo.is_whole ≡ is_kept pace count number)
+
 -- what a requester goes on with of the checks of its pace
 pub record IsInPace (timing : Timing) (pace : Pace) : Type 0 where
   pub some : 0 < pace.lifetime
@@ -140,3 +161,5 @@ pub record IsStation (station : RequesterView) : Type 0 where
   pub few : station.count ≤ most_opened station.last
   pub paced : (number : ℕ) → IsPaced number (remembered_in station.count station.slots number)
   pub shut : OlderAreShut station.count station.slots
+  pub whole :
+      (number : ℕ) → IsWholeBy station.pace station.count number (remembered_in station.count station.slots number)

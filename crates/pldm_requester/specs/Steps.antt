@@ -1,6 +1,6 @@
 -- One call of a requester over what it holds.
 use Rattle.std.specs.FinMap as map
-use Rattle.std.specs.Prelude.{◌≡◌, ℕ, ◌+◌, ◌-◌, ◌%◌, Bool, false, ◌&&◌, ◌||◌, not, ◌==◌, nat_lt, nat_le, List, filter, Option, Some, None, is_some, option_map, Result, Ok, Err, if◌then◌else◌}
+use Rattle.std.specs.Prelude.{◌≡◌, ℕ, ◌+◌, ◌-◌, ◌%◌, Bool, true, false, ◌&&◌, ◌||◌, not, ◌==◌, nat_lt, nat_le, List, [], filter, Option, Some, None, is_some, option_map, Result, Ok, Err, if◌then◌else◌}
 use Rattle.std.specs.List.{range_with_len}
 use Rattle.mctp_packet.specs.Packets.{Packet}
 use Rattle.mctp_packet.specs.Passing.{passing}
@@ -13,8 +13,8 @@ use Rattle.pldm_wire.specs.declared.assigned.TheConstants.{INSTANCE_IDS}
 use Rattle.pldm_wire.specs.declared.command.Command.{Command}
 use Rattle.pldm_requester.specs.Asks.{Ask, ask_of}
 use Rattle.pldm_requester.specs.Numbering.{tag_of, packets_with}
-use Rattle.pldm_requester.specs.Courses.{Course, no_course, is_open, begun, is_given_up, is_sent_again, ticked, answered}
-use Rattle.pldm_requester.specs.Pacing.{at_default, newest, is_too_soon, stride, is_crowded}
+use Rattle.pldm_requester.specs.Courses.{Course, no_course, is_open, begun, is_given_up, is_sent_again, ticked, answered, without_answer}
+use Rattle.pldm_requester.specs.Pacing.{at_default, newest, is_too_soon, kept, stride, is_crowded}
 use Rattle.pldm_requester.specs.Arrivals.{Arrival, Drop, Part, Answer, got_of, is_response_to, passed_arrival}
 use Rattle.pldm_requester.specs.Calls.{answer_key, is_from_device, open_answer}
 use Rattle.pldm_requester.specs.declared.results.Got.{Got}
@@ -24,11 +24,25 @@ use Rattle.pldm_requester.specs.declared.pace.Pace.{Pace}
 use Rattle.pldm_requester.specs.declared.timing.Timing.{Timing}
 use Rattle.pldm_requester.specs.declared.requester.TheConstants.{MAX_OPEN, MAX_REMEMBERED}
 
--- what is remembered of a request: which command it is of, its packets and its course
+-- what is remembered of a request: which command it is of, its packets and its course; or its outline, without its
+-- packets and its answer
 pub record Memo : Type 0 where
   pub kind : TypeAndCommand
   pub packets : List (List ℕ)
   pub course : Course
+  pub is_whole : Bool
+
+abbrev pub outline : Memo → Memo
+outline memo = record { kind = memo.kind; packets = []; course = without_answer memo.course; is_whole = false }
+
+-- the outline, where this is so
+abbrev pub outline_if : Bool → Option Memo → Option Memo
+outline_if b memo = if b then option_map outline memo else memo
+
+-- what is remembered whole
+abbrev pub whole : Option Memo → Option Memo
+whole None = None
+whole (Some memo) = if memo.is_whole then Some memo else None
 
 -- its own endpoint ID and the device's, its timing and pace, how many requests were opened, what is remembered of each, what is
 -- open on each key, and the last moment
@@ -74,6 +88,10 @@ held_at_first own device timing = paced_at_first own device timing (at_default t
 abbrev pub is_recent : ℕ → ℕ → Bool
 is_recent count number = nat_lt number count && nat_le count (number + MAX_REMEMBERED)
 
+-- those that are remembered whole
+abbrev pub is_kept : Pace → ℕ → ℕ → Bool
+is_kept pace count number = nat_le count (number + kept pace)
+
 abbrev pub passes : (Course → Bool) → Option Memo → Bool
 passes test None = false
 passes test (Some memo) = test memo.course
@@ -83,7 +101,8 @@ course_of None = no_course
 course_of (Some memo) = memo.course
 
 abbrev pub with_course : (Course → Course) → Memo → Memo
-with_course change memo = record { kind = memo.kind; packets = memo.packets; course = change memo.course }
+with_course change memo =
+    record { kind = memo.kind; packets = memo.packets; course = change memo.course; is_whole = memo.is_whole }
 
 -- the last number below a count that has a tag
 abbrev pub latest_on : ℕ → ℕ → Option ℕ
@@ -113,6 +132,10 @@ begins_message (Ok p) = p.start
 module _ (held : RequesterState) where
   abbrev pub is_open_in : ℕ → Bool
   is_open_in number = passes is_open (held.remembered number)
+
+  -- it is among those that are remembered whole
+  abbrev pub is_there : ℕ → Bool
+  is_there number = is_recent held.count number && is_kept held.pace held.count number
 
   abbrev pub is_tag_in_use : Bool
   is_tag_in_use = nat_le TAGS held.count && is_open_in (held.count - TAGS)
@@ -147,18 +170,20 @@ module _ (held : RequesterState) where
     kind = ask.kind;
     packets = packets_with held.own held.device held.count ask;
     course = begun moment;
+    is_whole = true;
   }
 
   abbrev pub new_memo : ℕ → Command → Memo
   new_memo moment command = memo_with moment (ask_of command)
 
-  -- what is held after an accepted open: of the last requests one more is remembered
+  -- what is held after an accepted open: of the last requests one more is remembered, and of one the outline alone
   abbrev pub opened_with : ℕ → Ask → RequesterState
   opened_with moment ask = record held {
     count = held.count + 1;
     remembered = λ number.
         if number == held.count then Some (memo_with moment ask)
-        else (if is_recent (held.count + 1) number then held.remembered number else None);
+        else (if is_recent (held.count + 1) number
+        then outline_if (number + kept held.pace == held.count) (held.remembered number) else None);
     open_messages = map.remove held.open_messages (answer_key held.device (tag_of held.count));
     last = moment;
   }

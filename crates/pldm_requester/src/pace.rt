@@ -3,7 +3,7 @@
 ghost use Rattle.std.specs.Prelude.{◌≡◌};
 ghost use Rattle.pldm_requester.specs.Pacing.{number_of_pace_fault};
 
-use crate::{Timing, TimingFault};
+use crate::{MAX_OPEN, MAX_REMEMBERED, Timing, TimingFault};
 use mctp_packet::Keep;
 use pldm_wire::INSTANCE_IDS;
 use thiserror::Error;
@@ -29,6 +29,9 @@ pub struct Pace {
     /// or 32 less the window, whichever is less. No burst then uses up all instance IDs. It changes nothing where the
     /// window is 32.
     pub spread: bool,
+    /// Whether little is kept: the packets and the answer of a request only while it is among the last 8, and not among
+    /// the last 32. Of the others it then knows what the rule needs: when they were opened, and whether they were answered.
+    pub brief: bool,
 }
 
 /// Why a pace was refused.
@@ -70,7 +73,8 @@ impl PaceFault {
 
 impl Pace {
     ghost use Rattle.std.specs.Prelude.{◌≡◌, ◌≤◌, ◌<◌};
-    ghost use Rattle.pldm_requester.specs.Pacing.{at_default, pace_fault, stride};
+    ghost use Rattle.pldm_requester.specs.Pacing.{at_default, kept, pace_fault, stride};
+    ghost use Rattle.pldm_requester.specs.declared.requester.TheConstants.{MAX_OPEN, MAX_REMEMBERED};
     ghost use Rattle.pldm_requester.specs.declared.pace.TheConstants.{MOST_SPREAD};
 
     /// The pace that goes by the keeping time alone: an instance ID is used again after twice that time.
@@ -81,6 +85,7 @@ impl Pace {
             lifetime: u64::from(keep.get()),
             window: INSTANCE_IDS,
             spread: false,
+            brief: false,
         }
     }
 
@@ -101,6 +106,19 @@ impl Pace {
             return Some(PaceFault::Window);
         }
         None
+    }
+
+    /// Of how many of the last requests the packets and the answer are kept.
+    pub(crate) fn kept(&self) -> u64
+        ensures value { result ≡ kept self.now }
+        ensures some { MAX_OPEN ≤ result }
+        ensures range { result ≤ MAX_REMEMBERED }
+    {
+        if self.brief {
+            MAX_OPEN as u64
+        } else {
+            MAX_REMEMBERED as u64
+        }
     }
 
     /// How many requests before another is the one whose opening it waits for: 0 where requests are not spread.

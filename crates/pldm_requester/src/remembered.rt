@@ -17,24 +17,31 @@ enum Progress {
     GaveUp,
 }
 
-/// What is remembered of a request. There is room for its answer from the opening on.
+/// The packets of a request's message, and the message that answered it, where one did: the room for it is there from the
+/// opening on.
+#[derive(Debug, Drop)]
+pub(crate) struct Content {
+    packets: Packets,
+    answer: Body,
+}
+
+/// What is remembered of a request.
 #[derive(Debug, Drop)]
 pub(crate) struct Remembered {
     /// Which command it asks for.
     pub(crate) kind: Kind,
-    /// The packets of its message.
-    pub(crate) packets: Packets,
     /// When it was opened.
     pub(crate) opening: Moment,
     /// When it was last sent: its opening, or the last tick that sent it again.
     last_sent: Moment,
     /// How it stands.
     progress: Progress,
-    /// The message that answered it, where one did.
-    answer: Body,
+    /// Its packets and its answer, where they are kept.
+    content: Option<Box<Content>>,
 }
 
 impl Model for Remembered {
+    ghost use Rattle.std.specs.Prelude.{is_some};
     ghost use Rattle.pldm_requester.specs.Steps.{Memo};
     ghost use Rattle.pldm_requester.specs.Slots.{coded_memo};
 
@@ -42,90 +49,87 @@ impl Model for Remembered {
 
     ghost coded = { coded_memo };
 
-    ghost use Rattle.pldm_requester.specs.RequestProgress.{progress_of};
+    ghost use Rattle.pldm_requester.specs.RequestProgress.{answer_in, packets_in, progress_of};
 
     ghost view = { λ r. record {
       kind = r.kind;
-      packets = r.packets;
+      packets = packets_in r.content;
       course = record {
         opening = r.opening;
         last_sent
             = r.last_sent;
-        progress = progress_of r.progress r.answer.items;
+        progress = progress_of r.progress (answer_in r.content);
       };
+      is_whole = is_some r.content;
     } };
 }
 
 impl Remembered {
-    ghost use Rattle.std.specs.Prelude.{◌≡◌, ℕ, ◌<◌, ◌≤◌, [], ◌∷◌, ◌++◌, length, if◌then◌else◌};
+    ghost use Rattle.std.specs.Prelude.{◌≡◌, ℕ, ◌<◌, ◌≤◌, true, is_some, Some, option_map, [], ◌∷◌, ◌++◌, length, if◌then◌else◌};
     ghost use Rattle.arrayvec.specs.ArrayVec.{array_vec_len};
-    ghost use Rattle.mctp_packet.specs.Pieces.{written_packets};
-    ghost use Rattle.pldm_wire.specs.Commands.{command_message, kind_of};
-    ghost use Rattle.pldm_requester.specs.Asks.{ask_message};
-    ghost use Rattle.pldm_requester.specs.AskRefs.{HasRoom, IsReadable, ask_in};
+    ghost use Rattle.pldm_wire.specs.Commands.{kind_of};
+    ghost use Rattle.pldm_requester.specs.AskRefs.{ask_in};
     ghost use Rattle.pldm_requester.specs.Courses.{answered, begun, given_up, is_open, is_over, is_given_up, is_sent_again, ticked};
     ghost use Rattle.pldm_requester.specs.Deadlines.{is_due, is_reached};
     ghost use Rattle.pldm_requester.specs.Pacing.{is_answered_from};
-    ghost use Rattle.pldm_requester.specs.Steps.{with_course};
-    ghost use Rattle.pldm_requester.specs.RequestProgress.{progress_in_status};
+    ghost use Rattle.pldm_requester.specs.Steps.{outline, whole, with_course};
+    ghost use Rattle.pldm_requester.specs.RequestProgress.{packets_in, progress_in_status};
 
-    /// A request that is opened now: it asks so, with this instance ID on this route.
-    // Its message is put where its answer will be: then there is one room for both.
-    pub(crate) fn new(id: u8, ask: &AskRef<'_>, route: &Route, now: Moment) -> Remembered
-        requires id { id < INSTANCE_IDS }
-        requires room { HasRoom ask.now }
-        ensures memo { result ≡ record {
+    /// A request that is opened now: it asks so, and this is kept of it.
+    pub(crate) fn new(content: Box<Content>, ask: &AskRef<'_>, now: Moment) -> Remembered
+        ensures { result ≡ record {
           kind = (ask_in ask.now).kind;
-          packets = written_packets route.now (ask_message id (ask_in ask.now));
+          packets = content.value.packets;
           course = begun now;
+          is_whole = true;
         } }
-        ensures readable { IsReadable ask.now }
     {
-        let mut message = Body::new();
-        ask.put(&mut message, id);
         Remembered {
             kind: ask.kind(),
-            packets: split(route, &message).unwrap(),
             opening: now,
             last_sent: now,
             progress: Progress::Waiting,
-            answer: message,
+            content: Some(content),
         }
     }
 
-    /// A request of which the opening alone is known, with this instance ID on this route: it stands as one for the
-    /// terminus ID that was given up.
-    pub(crate) fn shut(id: u8, route: &Route, opening: Moment) -> Remembered
-        requires { id < INSTANCE_IDS }
+    /// A request of which the opening alone is known, and this is kept: it stands as one for the terminus ID that was given
+    /// up.
+    pub(crate) fn shut(content: Option<Box<Content>>, opening: Moment) -> Remembered
         ensures { result ≡ record {
           kind = kind_of Command.GetTid;
-          packets = written_packets route.now (command_message id Command.GetTid);
+          packets = packets_in content;
           course = given_up (begun opening);
+          is_whole = is_some content;
         } }
     {
-        let mut request = Remembered::new(id, &AskRef::Command(&Command::GetTid), route, opening);
-        request.progress = Progress::GaveUp;
-        request
+        Remembered {
+            kind: Command::GetTid.kind(),
+            opening,
+            last_sent: opening,
+            progress: Progress::GaveUp,
+            content,
+        }
     }
 
-    /// Another request takes its place: it asks so, with this instance ID on this route.
-    // As at first: so no room has to be cleared for its message.
-    pub(crate) fn begin(&mut self, id: u8, ask: &AskRef<'_>, route: &Route, now: Moment)
-        requires id { id < INSTANCE_IDS }
-        requires room { HasRoom ask.now }
-        ensures memo { self.new ≡ record {
-          kind = (ask_in ask.now).kind;
-          packets = written_packets route.now (ask_message id (ask_in ask.now));
-          course = begun now;
-        } }
-        ensures readable { IsReadable ask.now }
+    /// Its packets and its answer, where they are kept: they are let go.
+    pub(crate) fn let_go(&mut self) -> Option<Box<Content>>
+        ensures outline { self.new ≡ outline self.old }
+        ensures kept { is_some result ≡ self.old.is_whole }
     {
-        ask.put(&mut self.answer, id);
-        split_into(route, &self.answer, &mut self.packets).unwrap();
-        self.kind = ask.kind();
-        self.opening = now;
-        self.last_sent = now;
-        self.progress = Progress::Waiting;
+        self.content.take()
+    }
+
+    /// The packets of its message, where they are kept.
+    pub(crate) fn packets(&self) -> Option<&Packets>
+        ensures value { option_map (λ packets. packets.now) result
+            ≡ option_map (λ memo. memo.packets) (whole (Some self.now)) }
+        ensures there { is_some result ≡ is_some (whole (Some self.now)) }
+    {
+        match &self.content {
+            Some(content) => Some(&content.packets),
+            None => None,
+        }
     }
 
     /// Whether it is open.
@@ -198,22 +202,63 @@ impl Remembered {
 
     /// It is answered by this message.
     pub(crate) fn take(&mut self, message: &[u8])
-        requires { length message.now ≤ MAX_MESSAGE_BYTES }
+        requires few { length message.now ≤ MAX_MESSAGE_BYTES }
+        requires kept { self.old.is_whole ≡ true }
         ensures { self.new ≡ with_course (answered message.now) self.old }
     {
-        self.answer.clear();
-        self.answer.try_extend_from_slice(message).unwrap();
-        self.progress = Progress::Answered;
+        if let Some(content) = &mut self.content {
+            content.answer.clear();
+            content.answer.try_extend_from_slice(message).unwrap();
+            self.progress = Progress::Answered;
+        }
     }
 
-    /// How it stands, as callers see it.
-    pub(crate) fn status(&self) -> Status<'_>
-        ensures { progress_in_status result ≡ self.now.course.progress }
+    /// How it stands, as callers see it, where its packets and its answer are kept.
+    pub(crate) fn status(&self) -> Option<Status<'_>>
+        ensures value { option_map progress_in_status result
+            ≡ option_map (λ memo. memo.course.progress) (whole (Some self.now)) }
+        ensures there { is_some result ≡ is_some (whole (Some self.now)) }
     {
-        match &self.progress {
+        let content = self.content.as_ref()?;
+        Some(match &self.progress {
             Progress::Waiting => Status::Open,
-            Progress::Answered => Status::Answered(&self.answer),
+            Progress::Answered => Status::Answered(&content.answer),
             Progress::GaveUp => Status::GaveUp,
+        })
+    }
+}
+
+impl Content {
+    ghost use Rattle.std.specs.Prelude.{◌≡◌, ◌<◌};
+    ghost use Rattle.mctp_packet.specs.Pieces.{written_packets};
+    ghost use Rattle.pldm_requester.specs.Asks.{ask_message};
+    ghost use Rattle.pldm_requester.specs.AskRefs.{HasRoom, IsReadable, ask_in};
+
+    /// What is kept of a request that asks so, with this instance ID on this route.
+    // Its message is put where its answer will be: then there is one room for both.
+    pub(crate) fn new(id: u8, ask: &AskRef<'_>, route: &Route) -> Content
+        requires id { id < INSTANCE_IDS }
+        requires room { HasRoom ask.now }
+        ensures packets { result.packets ≡ written_packets route.now (ask_message id (ask_in ask.now)) }
+        ensures readable { IsReadable ask.now }
+    {
+        let mut message = Body::new();
+        ask.put(&mut message, id);
+        Content {
+            packets: split(route, &message).unwrap(),
+            answer: message,
         }
+    }
+
+    /// The same in the place of what was kept of another request.
+    // As at first: so no room has to be cleared for its message.
+    pub(crate) fn begin(&mut self, id: u8, ask: &AskRef<'_>, route: &Route)
+        requires id { id < INSTANCE_IDS }
+        requires room { HasRoom ask.now }
+        ensures packets { self.new.packets ≡ written_packets route.now (ask_message id (ask_in ask.now)) }
+        ensures readable { IsReadable ask.now }
+    {
+        ask.put(&mut self.answer, id);
+        split_into(route, &self.answer, &mut self.packets).unwrap();
     }
 }

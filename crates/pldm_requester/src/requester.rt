@@ -1,6 +1,6 @@
 //! The requesting end of a link: requests opened, sent again at ticks, and answered by packets.
 
-ghost use Rattle.std.specs.Prelude.{◌≡◌, ◌↔◌, slice_get, ◌⊎◌, ℕ, ◌+◌, ◌%◌, ◌^◌, ◌<◌, ◌≤◌, true, ◌||◌, [], ◌∷◌, ◌++◌, length, filter, if◌then◌else◌, None, Some, Ok, Err, option_map, vec_len, vec_capacity, IfOk, IfErr, IfSome, IsErrOf, OnOk, OnErr, ◌-◌, ◌*◌};
+ghost use Rattle.std.specs.Prelude.{◌≡◌, ◌↔◌, slice_get, ◌⊎◌, ℕ, ◌+◌, ◌%◌, ◌^◌, ◌<◌, ◌≤◌, true, ◌||◌, [], ◌∷◌, ◌++◌, length, filter, if◌then◌else◌, None, Some, Ok, Err, option_map, vec_len, vec_capacity, is_some, IfOk, IfErr, IfSome, IsErrOf, OnOk, OnErr, ◌-◌, ◌*◌};
 ghost use Rattle.std.specs.Bool.{OnFalse};
 ghost use Rattle.std.specs.Option.{option_copied};
 ghost use Rattle.std.specs.List.{All};
@@ -25,7 +25,7 @@ ghost use Rattle.pldm_requester.specs.Numbering.{id_of, tag_of};
 ghost use Rattle.pldm_requester.specs.Pacing.{is_answered_from, is_too_soon, newest, setting_fault};
 ghost use Rattle.pldm_requester.specs.Slots.{AreSlots, IsInPace, OlderAreShut, held_of, most_opened, remembered_in};
 ghost use Rattle.pldm_requester.specs.RequestProgress.{progress_in_status};
-ghost use Rattle.pldm_requester.specs.Steps.{IsHeld, accepts, again_at, arrived_by, begins_message, expects, given_up_at, goes_to, got_at, held_at_first, held_by, is_id_in_use, is_mine, is_open_in, is_tag_in_use, opened_held, opened_with, opening_answer, passed, passes, received_held, recent_numbers, remembered_after, ticked_held, with_course, course_of, courses_since, has_id_before, has_many_before, paced_at_first};
+ghost use Rattle.pldm_requester.specs.Steps.{IsHeld, accepts, again_at, arrived_by, begins_message, expects, given_up_at, goes_to, got_at, held_at_first, held_by, is_id_in_use, is_mine, is_open_in, is_tag_in_use, opened_held, opened_with, opening_answer, passed, passes, received_held, recent_numbers, remembered_after, ticked_held, whole, is_there, with_course, course_of, courses_since, has_id_before, has_many_before, paced_at_first};
 ghost use Rattle.pldm_requester.specs.Resuming.{AreKnown, AreLeft, IsKnown, resumed_held, shut_memo};
 ghost use Rattle.pldm_requester.specs.Timings.{timing_fault};
 
@@ -33,7 +33,7 @@ use crate::ask::AskRef;
 use crate::numbering::{id_of, tag_of};
 use crate::remembered::Remembered;
 use crate::resuming::{moments_of, shut_slots};
-use crate::slots::{make_room, put};
+use crate::slots::{content_for, make_room, put};
 use crate::{
     Due, Got, OpenFault, Opened, Openings, Pace, ResumeFault, SettingFault, Status, Timing,
     TimingFault,
@@ -201,7 +201,7 @@ impl Requester {
         let Some(count) = openings.count_at(now) else {
             return Err(ResumeFault::Openings);
         };
-        let slots = shut_slots(alloc, own, device, openings)?;
+        let slots = shut_slots(alloc, own, device, &pace, count, openings)?;
         Ok(Requester {
             own,
             device,
@@ -243,25 +243,30 @@ impl Requester {
         self.count
     }
 
-    /// The packets of a request's message, where it is among the last [`MAX_REMEMBERED`].
+    /// The packets of a request's message, where it is among the last [`MAX_REMEMBERED`], or, where little is kept (see
+    /// [`Pace`]), the last [`MAX_OPEN`].
     pub fn packets(&self, number: u64) -> Option<&Packets>
-        ensures { option_map (λ packets. packets.now) result ≡ option_map (λ memo. memo.packets)
-            ((held_of self.now).remembered number) }
+        ensures value { option_map (λ packets. packets.now) result ≡ option_map (λ memo. memo.packets)
+            (whole ((held_of self.now).remembered number)) }
+        ensures there { is_some result ≡ is_there (held_of self.now) number }
     {
-        Some(&self.remembered(number)?.packets)
+        self.remembered(number)?.packets()
     }
 
-    /// How a request stands, where it is among the last [`MAX_REMEMBERED`].
+    /// How a request stands, where it is among those of which [`Requester::packets`] has the packets.
     pub fn status(&self, number: u64) -> Option<Status<'_>>
-        ensures { option_map progress_in_status result ≡ option_map (λ memo. memo.course.progress)
-            ((held_of self.now).remembered number) }
+        ensures value { option_map progress_in_status result ≡ option_map (λ memo. memo.course.progress)
+            (whole ((held_of self.now).remembered number)) }
+        ensures there { is_some result ≡ is_there (held_of self.now) number }
     {
-        Some(self.remembered(number)?.status())
+        self.remembered(number)?.status()
     }
 
     /// What is remembered of a request, where it is among the last ones.
+    #[tactic(auto, using(crate::proofs::SlotSteps::there_is))]
     fn remembered(&self, number: u64) -> Option<&Remembered>
-        ensures { option_copied result ≡ remembered_in self.now.count self.now.slots number }
+        ensures value { option_copied result ≡ remembered_in self.now.count self.now.slots number }
+        ensures there { is_some (whole (option_copied result)) ≡ is_there (held_of self.now) number }
     {
         if number >= self.count || self.count - number > MAX_REMEMBERED as u64 {
             return None;
@@ -433,7 +438,8 @@ impl Requester {
             owner: true,
             tag,
         };
-        put(&mut self.slots, number, ask, &route, now);
+        let content = content_for(&mut self.slots, &self.pace, number, ask, &route)?;
+        put(&mut self.slots, number, Remembered::new(content, ask, now));
         self.assembler.forget(answer_key(self.device, tag));
         self.count = number + 1;
         self.last = now;
@@ -625,7 +631,8 @@ impl Requester {
 
     /// Takes a whole message that came to an open request.
     fn answer(&mut self, number: u64, message: &[u8]) -> Got
-        requires { length message.now ≤ MAX_MESSAGE_BYTES }
+        requires few { length message.now ≤ MAX_MESSAGE_BYTES }
+        requires open { is_open_in (held_of self.old) number ≡ true }
         ensures got { result ≡ got_of (response_arrival (is_mine (held_of self.old)) number message.now
             (response_of message.now)) }
         ensures held { IsHeld (held_of self.new) (record (held_of self.old) {
