@@ -32,7 +32,7 @@ paced = record {
   keep = 1000;
   window = 1;
   requesters = record { eid = 8; timeout = 5; tries = 2 } ∷ [];
-  pace = record { lifetime = 10; window = 1; spread = false };
+  pace = record { lifetime = 10; window = 1; spread = false; brief = false };
 }
 
 abbrev at : ℕ → Action → Step

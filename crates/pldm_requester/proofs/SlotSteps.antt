@@ -17,7 +17,7 @@ use Rattle.pldm_requester.specs.Arrivals.{Drop, Answer, response_arrival}
 use Rattle.pldm_requester.specs.Calls.{answer_key}
 use Rattle.pldm_requester.specs.Courses.{begun, is_open, answered}
 use Rattle.pldm_requester.specs.Numbering.{id_of, tag_of}
-use Rattle.pldm_requester.specs.Steps.{Memo, IsHeld, is_kept, is_recent, outline, outline_if, passes, is_open_in, is_tag_in_use, is_mine, is_mine_by, is_there, whole, with_course, remembered_after, opened_with, memo_with}
+use Rattle.pldm_requester.specs.Steps.{Memo, IsHeld, is_kept, is_recent, outline, outline_if, passes, is_open_in, is_tag_in_use, at_hand, is_mine, is_mine_by, is_there, whole, with_course, remembered_after, opened_with, memo_with}
 use Rattle.pldm_requester.specs.Slots.{RequesterView, held_of, remembered_in, freed, put_slot, AreSlots, IsPaced, IsStation, IsWholeAt, IsWholeBy, most_opened}
 use Rattle.pldm_requester.specs.Pacing.{kept}
 use Rattle.pldm_requester.specs.declared.pace.Pace.{Pace}
@@ -166,22 +166,38 @@ pub memo_is : (station : RequesterView) (now : ℕ) (ask : Ask) (tag : ℕ) → 
 memo_is station now ask tag e = λ i. record { kind = ask.kind; packets = written_packets (record { destination = station.device; source = station.own; owner = true; tag = e i }) (ask_message (id_of station.count) ask); course = begun now; is_whole = true }
 
 -- ---- which requests are remembered whole
-pub there_is : (station : RequesterView) → IsStation station → (n : ℕ) → is_some (whole (remembered_in station.count station.slots n)) ≡ is_there (held_of station) n
-there_is station is n = go (is_recent station.count n) refl
-  where
-    whole_is : (memo : Memo) (b : Bool) → memo.is_whole ≡ b → is_some (whole (Some memo)) ≡ b
-    whole_is memo true e = ap (λ b. is_some (cond b (Some memo) None)) e
-    whole_is memo false e = ap (λ b. is_some (cond b (Some memo) None)) e
+module _ (station : RequesterView) (is : IsStation station) (n : ℕ) where
+  abbrev seen : Option Memo
+  seen = remembered_in station.count station.slots n
 
-    some : is_recent station.count n ≡ true → is_some (whole (remembered_in station.count station.slots n)) ≡ is_kept station.pace station.count n
-    some e =
-        let parts = recent_parts station.count n e in
-        let found = remembered_there station.count station.slots n is.slots parts.0 parts.1 in
-        ap (λ o. is_some (whole o)) found.1 ∙ whole_is found.0 (is_kept station.pace station.count n) (subst (IsWholeBy station.pace station.count n) found.1 (is.whole n))
+  neither : (b : Bool) → ◌≡◌ {A = Option Memo} (cond b None None) None
+  neither true = refl
+  neither false = refl
 
-    go : (b : Bool) → is_recent station.count n ≡ b → is_some (whole (remembered_in station.count station.slots n)) ≡ (b && is_kept station.pace station.count n)
-    go true e = some e
-    go false e = ap (λ o. is_some (whole o)) (cond-false (is_recent station.count n) _ _ e)
+  pub at_hand_is : whole seen ≡ at_hand (held_of station) n
+  at_hand_is = go (is_recent station.count n) refl
+    where
+      some : (o : Option Memo) → IsWholeBy station.pace station.count n o → whole o ≡ cond (is_kept station.pace station.count n) o None
+      some None same = sym (neither (is_kept station.pace station.count n))
+      some (Some memo) same = ap (λ b. cond b (Some memo) None) same
+
+      go : (b : Bool) → is_recent station.count n ≡ b → whole seen ≡ cond (b && is_kept station.pace station.count n) seen None
+      go true e = some seen (is.whole n)
+      go false e = ap whole (cond-false (is_recent station.count n) _ _ e)
+
+  pub there_is : is_some (at_hand (held_of station) n) ≡ is_there (held_of station) n
+  there_is = go (is_recent station.count n) refl
+    where
+      some : (b : Bool) (memo : Memo) → is_some (cond b (Some memo) None) ≡ b
+      some true memo = refl
+      some false memo = refl
+
+      go : (b : Bool) → is_recent station.count n ≡ b → is_some (cond (b && is_kept station.pace station.count n) seen None) ≡ (b && is_kept station.pace station.count n)
+      go true e =
+          let parts = recent_parts station.count n e in
+          let found = remembered_there station.count station.slots n is.slots parts.0 parts.1 in
+          ap (λ o. is_some (cond (is_kept station.pace station.count n) o None)) found.1 ∙ some (is_kept station.pace station.count n) found.0
+      go false e = refl
 
 -- ---- the numbers that pass a test
 pub filter_more : (test : ℕ → Bool) (a n j : ℕ) → a + n ≡ j → filter test (range_with_len a (n + 1)) ≡ filter test (range_with_len a n) ++ cond (test j) (j ∷ []) []

@@ -137,6 +137,9 @@ module _ (held : RequesterState) where
   abbrev pub is_there : ℕ → Bool
   is_there number = is_recent held.count number && is_kept held.pace held.count number
 
+  abbrev pub at_hand : ℕ → Option Memo
+  at_hand number = if is_there number then held.remembered number else None
+
   abbrev pub is_tag_in_use : Bool
   is_tag_in_use = nat_le TAGS held.count && is_open_in (held.count - TAGS)
 

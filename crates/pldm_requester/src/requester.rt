@@ -25,7 +25,7 @@ ghost use Rattle.pldm_requester.specs.Numbering.{id_of, tag_of};
 ghost use Rattle.pldm_requester.specs.Pacing.{is_answered_from, is_too_soon, newest, setting_fault};
 ghost use Rattle.pldm_requester.specs.Slots.{AreSlots, IsInPace, OlderAreShut, held_of, most_opened, remembered_in};
 ghost use Rattle.pldm_requester.specs.RequestProgress.{progress_in_status};
-ghost use Rattle.pldm_requester.specs.Steps.{IsHeld, accepts, again_at, arrived_by, begins_message, expects, given_up_at, goes_to, got_at, held_at_first, held_by, is_id_in_use, is_mine, is_open_in, is_tag_in_use, opened_held, opened_with, opening_answer, passed, passes, received_held, recent_numbers, remembered_after, ticked_held, whole, is_there, with_course, course_of, courses_since, has_id_before, has_many_before, paced_at_first};
+ghost use Rattle.pldm_requester.specs.Steps.{IsHeld, accepts, again_at, arrived_by, begins_message, expects, given_up_at, goes_to, got_at, held_at_first, held_by, is_id_in_use, is_mine, is_open_in, is_tag_in_use, opened_held, opened_with, opening_answer, passed, passes, received_held, recent_numbers, remembered_after, ticked_held, whole, at_hand, is_there, with_course, course_of, courses_since, has_id_before, has_many_before, paced_at_first};
 ghost use Rattle.pldm_requester.specs.Resuming.{AreKnown, AreLeft, IsKnown, resumed_held, shut_memo};
 ghost use Rattle.pldm_requester.specs.Timings.{timing_fault};
 
@@ -247,7 +247,7 @@ impl Requester {
     /// [`Pace`]), the last [`MAX_OPEN`].
     pub fn packets(&self, number: u64) -> Option<&Packets>
         ensures value { option_map (λ packets. packets.now) result ≡ option_map (λ memo. memo.packets)
-            (whole ((held_of self.now).remembered number)) }
+            (at_hand (held_of self.now) number) }
         ensures there { is_some result ≡ is_there (held_of self.now) number }
     {
         self.remembered(number)?.packets()
@@ -256,17 +256,18 @@ impl Requester {
     /// How a request stands, where it is among those of which [`Requester::packets`] has the packets.
     pub fn status(&self, number: u64) -> Option<Status<'_>>
         ensures value { option_map progress_in_status result ≡ option_map (λ memo. memo.course.progress)
-            (whole ((held_of self.now).remembered number)) }
+            (at_hand (held_of self.now) number) }
         ensures there { is_some result ≡ is_there (held_of self.now) number }
     {
         self.remembered(number)?.status()
     }
 
     /// What is remembered of a request, where it is among the last ones.
-    #[tactic(auto, using(crate::proofs::SlotSteps::there_is))]
+    #[tactic(auto, using(crate::proofs::SlotSteps::at_hand_is, crate::proofs::SlotSteps::there_is))]
     fn remembered(&self, number: u64) -> Option<&Remembered>
         ensures value { option_copied result ≡ remembered_in self.now.count self.now.slots number }
-        ensures there { is_some (whole (option_copied result)) ≡ is_there (held_of self.now) number }
+        ensures at_hand { whole (option_copied result) ≡ at_hand (held_of self.now) number }
+        ensures there { is_some (at_hand (held_of self.now) number) ≡ is_there (held_of self.now) number }
     {
         if number >= self.count || self.count - number > MAX_REMEMBERED as u64 {
             return None;
