@@ -982,6 +982,7 @@ struct needleoat_requester_settings {
     uint8_t own;         /* its endpoint ID, 8 to 254 */
     uint8_t device;      /* that of the device, 8 to 254 */
     uint8_t tries;       /* how often a request is sent at most, 1 to 8 */
+    bool brief;          /* whether the packets and the answer of the last 8 requests alone are kept, and not of 32 */
     uint32_t keep_ms;    /* how long the device keeps an answer for copies, 1 to 60,000 */
     uint32_t timeout_ms; /* how long after it was sent a request is sent again, 1 or more */
 
@@ -1071,8 +1072,9 @@ struct needleoat_receiving needleoat_requester_receive(struct needleoat_requeste
 
 /*
  * Writes the first packet of a request to the front of `out`, and returns its length in bytes; 0, with `out` as
- * it was, where the request is not among the last 32. The packet is the same each time that it is sent. The request of
- * a command has no other, and one of needleoat_requester_open_request none where its data has at most 60 bytes.
+ * it was, where the request is not among the last 32, or, where the requester is `brief`, the last 8. The packet is the
+ * same each time that it is sent. The request of a command has no other, and one of needleoat_requester_open_request
+ * none where its data has at most 60 bytes.
  */
 uint32_t needleoat_requester_packet(struct needleoat_requester *requester, uint64_t number,
                                     uint8_t out[NEEDLEOAT_PACKET_BYTES]);
@@ -1083,7 +1085,7 @@ uint32_t needleoat_requester_packet_at(struct needleoat_requester *requester, ui
 
 /* How a request stands. */
 enum needleoat_status_kind {
-    NEEDLEOAT_STATUS_UNKNOWN = 0,  /* it is not among the last 32 */
+    NEEDLEOAT_STATUS_UNKNOWN = 0,  /* it is not among the last 32, or, where the requester is `brief`, the last 8 */
     NEEDLEOAT_STATUS_OPEN = 1,     /* its answer may still come */
     NEEDLEOAT_STATUS_ANSWERED = 2, /* it was answered */
     NEEDLEOAT_STATUS_GAVE_UP = 3   /* it was given up */
@@ -1495,6 +1497,7 @@ NEEDLEOAT_ASSERT(sizeof(struct needleoat_requester_settings) == 20);
 NEEDLEOAT_AT(needleoat_requester_settings, own, 0);
 NEEDLEOAT_AT(needleoat_requester_settings, device, 1);
 NEEDLEOAT_AT(needleoat_requester_settings, tries, 2);
+NEEDLEOAT_AT(needleoat_requester_settings, brief, 3);
 NEEDLEOAT_AT(needleoat_requester_settings, keep_ms, 4);
 NEEDLEOAT_AT(needleoat_requester_settings, timeout_ms, 8);
 NEEDLEOAT_AT(needleoat_requester_settings, lifetime_ms, 12);

@@ -251,20 +251,28 @@ static bool restart_gives_back(void) {
     return well && in_use == 0;
 }
 
+/* The most bytes that a brief requester takes. */
+enum { BRIEF_MOST = 10000 };
+
 /* Whether only the first 32 requests of a requester ask for memory. */
-static bool requester_takes_32(void) {
+static bool requester_takes_32(bool brief) {
     static const uint8_t message[] = {1, 0x80, NEEDLEOAT_BASE, NEEDLEOAT_GET_TID};
     static struct needleoat_due due;
+    const char *name = brief ? "brief requester" : "requester";
     bool well = true;
-    needleoat_requester_new(&requester_settings, &requester);
-    printf("heap of a requester at first %zu\n", in_use);
+    struct needleoat_requester_settings settings = requester_settings;
+    settings.brief = brief;
+    most = 0;
+    needleoat_requester_new(&settings, &requester);
+    printf("heap of a %s at first %zu\n", name, in_use);
     for (uint64_t i = 0; i < 64; i++) {
         if (i == 32) looked_at = growths;
         well = needleoat_requester_open(&requester, i * 2000, message, sizeof message).refusal == 0 && well;
         well = needleoat_requester_tick(&requester, i * 2000 + 1999, &due) == 0 && due.given_up_count == 1 && well;
     }
     well = asked_for_none("request 33 of a requester", well);
-    printf("heap of a requester with 32 requests %zu\n", in_use);
+    printf("heap of a %s with 32 requests %zu, while it grows %zu\n", name, in_use, most);
+    well = (!brief || most <= BRIEF_MOST) && well;
     needleoat_requester_free(&requester);
     return well && in_use == 0;
 }
@@ -312,6 +320,7 @@ int main(void) {
     }
     well = takes_only_there() && well;
     well = restart_gives_back() && well;
-    well = requester_takes_32() && well;
+    well = requester_takes_32(false) && well;
+    well = requester_takes_32(true) && well;
     return !well || in_use != 0;
 }

@@ -405,6 +405,8 @@ pub struct RequesterSettings {
     pub device: u8,
     /// How often a request is sent at most, 1 to 8.
     pub tries: u8,
+    /// Whether the packets and the answer of the last 8 requests alone are kept, and not of 32.
+    pub brief: bool,
     /// How long the device keeps an answer for copies, 1 to 60,000 milliseconds.
     pub keep_ms: u32,
     /// How long after it was sent a request is sent again, 1 millisecond or more.
@@ -432,8 +434,17 @@ pub struct PeerSettings {
 }
 
 impl RequesterSettings {
-    /// Each field 0.
-    pub const ZERO: Self = Self { own: 0, device: 0, tries: 0, keep_ms: 0, timeout_ms: 0, lifetime_ms: 0, window: 0 };
+    /// Each field 0, and `brief` false.
+    pub const ZERO: Self = Self {
+        own: 0,
+        device: 0,
+        tries: 0,
+        brief: false,
+        keep_ms: 0,
+        timeout_ms: 0,
+        lifetime_ms: 0,
+        window: 0,
+    };
 }
 
 impl Default for RequesterSettings {

@@ -129,7 +129,7 @@ layout! {
         kind 0, reason 1, fresh 2, changed 3, count 4, lengths 8, handle 32,
     }
     RequesterSettings 20 {
-        own 0, device 1, tries 2, keep_ms 4, timeout_ms 8, lifetime_ms 12, window 16,
+        own 0, device 1, tries 2, brief 3, keep_ms 4, timeout_ms 8, lifetime_ms 12, window 16,
     }
     Opening 16 {
         refusal 0, instance_id 1, tag 2, number 8,

@@ -169,6 +169,7 @@ fn requester() -> Requester {
         own: OWN,
         device: DEVICE,
         tries: TRIES as u8,
+        brief: true,
         keep_ms: KEEP_MS as u32,
         timeout_ms: TIMEOUT_MS as u32,
         lifetime_ms: LIFETIME_MS as u32,

@@ -30,7 +30,7 @@ use Rattle.mctp_schedule.specs.declared.askers.AnsweredRequest.{AnsweredRequest}
 use Rattle.mctp_schedule.specs.declared.entry.Entry.TheVariants as entry
 use Rattle.mctp_schedule.specs.declared.journal.Journal.{Journal}
 use Rattle.schedule_text.specs.declared.step.Step.{Step}
-use Rattle.mctp_schedule.proofs.AskerCalls.{answer_of_got, answer_remembered, own_below, progress_left}
+use Rattle.mctp_schedule.proofs.AskerCalls.{answer_near, answer_of_got, answer_remembered, kept_near, own_below, progress_remembered}
 use Rattle.mctp_schedule.proofs.LoggedRequests.{asked_below}
 use Rattle.mctp_schedule.proofs.AfterCall.{with_side, Writes, called_runs, new_side}
 use Rattle.mctp_schedule.proofs.HandedAnswerPackets.{delivered, done_is, entry_is, timely_is}
@@ -66,9 +66,10 @@ module _ (own device : ℕ) (timing : Timing) (pace : Pace) where
       answered_other (fed_by own device timing a (passed own device timing a bytes)) (arrived own device timing a bytes) n other ∙ fed_course a (passed own device timing a bytes) n
 
 -- ---- what is remembered of a request stands as it does
-memo_progress : (b : Bool) (memo : Memo) (progress : courses.Progress) → option_map (λ (m : Memo). m.course.progress) (if b then Some memo else None) ≡ Some progress → memo.course.progress ≡ progress
-memo_progress true memo progress e = cc
-memo_progress false memo progress e = absurd (cc)
+memo_progress : (b k : Bool) (memo : Memo) (progress : courses.Progress) → k ≡ true → option_map (λ (m : Memo). m.course.progress) (if b then outline_if (not k) (Some memo) else None) ≡ Some progress → memo.course.progress ≡ progress
+memo_progress true true memo progress kept e = cc
+memo_progress true false memo progress kept e = absurd (cc)
+memo_progress false k memo progress kept e = absurd (cc)
 
 not_answered : (x : Arrival) (y : Arrival) (n : ℕ) → got_of x ≡ got_of y → ((m : List ℕ) → x ≡ Answer n m → ⊥) → (m : List ℕ) → y ≡ Answer n m → ⊥
 not_answered x y n same none m e =
@@ -128,11 +129,12 @@ module _ {S : Type 0} (setting : BothEnds S) (w : World) (moment e : ℕ) (bytes
     stands : (r : Asked) (n : ℕ) (m : List ℕ) → r.source ≡ e → r.own ≡ n → brought ≡ Answer n m → (as_it_stands setting v r).progress ≡ courses.Answered m
     stands r n m at own is =
         let now = requests e setting.eid (timing_of setting e) setting.pace (requester.Receive moment bytes ∷ w.calls e) in
-        let memo = progress_left (held_of side.station) (held_of new.station) moment bytes n m x.new_held is in
+        let near = answer_near (held_of side.station) (passed (held_of side.station) bytes) n m is in
+        let memo = progress_remembered (held_of side.station) (held_of new.station) moment bytes n m x.new_held is in
         ap (λ d. ((requests d setting.eid (timing_of setting d) setting.pace (v.calls d)).each r.own).course.progress) at
         ∙ ap (λ cs. ((requests e setting.eid (timing_of setting e) setting.pace cs).each r.own).course.progress) (call_here w.calls e (requester.Receive moment bytes))
         ∙ ap (λ k. (now.each k).course.progress) own
-        ∙ memo_progress (is_recent now.count n) (memo_of e setting.eid now n) (courses.Answered m) (sym (ap (option_map (λ (q : Memo). q.course.progress)) (new_left.remembered n)) ∙ memo)
+        ∙ memo_progress (is_recent now.count n) (is_kept setting.pace now.count n) (memo_of e setting.eid now n) (courses.Answered m) (kept_near setting.pace now.count n (omega (arith, near.1, x.new_held.count, new_left.count))) (sym (ap (option_map (λ (q : Memo). q.course.progress)) (new_left.remembered n)) ∙ memo)
 
     pub answered_stands : (k : ℕ) (r : Asked) → asked_at w.log k ≡ Some r → IsOpened setting w k r → answered_as answered k (as_it_stands setting w r) ≡ as_it_stands setting v r
     answered_stands k r is o = go brought refl x.reports

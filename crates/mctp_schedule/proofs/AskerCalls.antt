@@ -3,7 +3,7 @@ use Rattle.std.proofs.Common.{◌≡◌, ℕ, zero, suc, ◌+◌, ◌-◌, ◌%�
 use Rattle.std.specs.Prelude.{◌==◌, ◌&&◌, not, nat_lt, nat_le, filter, option_map, slice_get, slice_index, if◌then◌else◌}
 use Rattle.std.specs.List.{AllByRecursion, range_with_len}
 use Rattle.std.proofs.Math.Seq.{drop-append_seam}
-use Rattle.std.proofs.lemmas.Bool.{cond-true, ltb-true}
+use Rattle.std.proofs.lemmas.Bool.{and_from, cond-true, le-leb, lt-ltb, ltb-true}
 use Rattle.mctp_packet.specs.Packets.{Packet, packet, written}
 use Rattle.mctp_packet.specs.Pieces.{piece, piece_count, written_packets}
 use Rattle.mctp_packet.specs.declared.packet.Route.{Route}
@@ -22,8 +22,9 @@ use Rattle.pldm_requester.specs.Courses as courses
 use Rattle.pldm_requester.specs.Courses.{Course, is_open}
 use Rattle.pldm_requester.specs.Numbering.{message_of, opened_as, route_of}
 use Rattle.pldm_requester.specs.Slots.{held_of, remembered_in}
+use Rattle.pldm_requester.specs.declared.pace.Pace.{Pace}
 use Rattle.pldm_requester.specs.declared.requester.TheConstants.{MAX_OPEN, MAX_REMEMBERED}
-use Rattle.pldm_requester.specs.Steps.{RequesterState, IsHeld, Memo, arrived_by, goes_to, got_at, is_mine, is_open_in, latest_on, new_memo, opened_held, passed, passes, received_held, recent_numbers, remembered_after, where_open, with_course}
+use Rattle.pldm_requester.specs.Steps.{RequesterState, IsHeld, Memo, arrived_by, at_hand, is_kept, is_recent, is_there, goes_to, got_at, is_mine, is_open_in, latest_on, new_memo, opened_held, passed, passes, received_held, recent_numbers, remembered_after, where_open, with_course}
 use Rattle.pldm_requester.specs.declared.results.Got.{Got}
 use Rattle.pldm_requester.specs.declared.results.Got.TheVariants as gots
 use Rattle.pldm_requester.specs.declared.results.Opened.{Opened}
@@ -42,6 +43,21 @@ one_packet route message some few =
     let one : piece_count message ≡ 1 = omega arith in
     ap (counted route message) one ∙ ap (λ m. written (packet route true true 0 m) ∷ []) (take_all BASELINE_UNIT message few)
 
+-- ---- the last requests are at hand
+pub kept_near : (pace : Pace) (count n : ℕ) → count ≤ n + 8 → is_kept pace count n ≡ true
+kept_near pace count n near = go pace.brief
+  where
+    go : (b : Bool) → nat_le count (n + (if b then 8 else 32)) ≡ true
+    go true = le-leb count (n + 8) near
+    go false = le-leb count (n + 32) (omega (arith, near))
+
+pub last_at_hand : (held : RequesterState) (n : ℕ) → n < held.count → held.count ≤ n + 8 → at_hand held n ≡ held.remembered n
+last_at_hand held n below near =
+    cond-true (is_there held n) _ _
+    (and_from (is_recent held.count n) (is_kept held.pace held.count n)
+    (and_from (nat_lt n held.count) (nat_le held.count (n + 32)) (lt-ltb n held.count below) (le-leb held.count (n + 32) (omega (arith, near))))
+    (kept_near held.pace held.count n near))
+
 -- ---- an accepted open
 pub accepted_as : (tag id : Bool) (number : ℕ) (opened : Opened) → open_answer tag id number ≡ Ok opened → opened ≡ opened_as number
 accepted_as true id number opened e = absurd (cc)
@@ -54,15 +70,16 @@ opened_memo new held moment command h = h.remembered held.count ∙ cond-true (h
 -- it is the one packet of the request
 pub opened_packet : (new held : RequesterState) (moment number : ℕ) (command : Command) → IsHeld new (opened_held held moment command) → number ≡ held.count
     → 0 < length (message_of held.count command) → length (message_of held.count command) ≤ BASELINE_UNIT
-    → option_map (λ (memo : Memo). memo.packets) (new.remembered number) ≡ Some (packet_bytes held.own held.device held.count (message_of held.count command) ∷ [])
+    → option_map (λ (memo : Memo). memo.packets) (at_hand new number) ≡ Some (packet_bytes held.own held.device held.count (message_of held.count command) ∷ [])
 opened_packet new held moment number command h same some few =
-    ap (λ n. option_map (λ (memo : Memo). memo.packets) (new.remembered n)) same
-    ∙ ap (option_map (λ (memo : Memo). memo.packets)) (opened_memo new held moment command h)
+    let count = h.count in
+    ap (λ n. option_map (λ (memo : Memo). memo.packets) (at_hand new n)) same
+    ∙ ap (option_map (λ (memo : Memo). memo.packets)) (last_at_hand new held.count (omega (arith, count)) (omega (arith, count)) ∙ opened_memo new held moment command h)
     ∙ ap Some (one_packet (route_of held.own held.device held.count) (message_of held.count command) some few)
 
 pub sent_packet : (new held : RequesterState) (moment number : ℕ) (command : Command) (bytes : List ℕ) → IsHeld new (opened_held held moment command) → number ≡ held.count
     → 0 < length (message_of held.count command) → length (message_of held.count command) ≤ BASELINE_UNIT
-    → option_map (λ (memo : Memo). memo.packets) (new.remembered number) ≡ Some (bytes ∷ [])
+    → option_map (λ (memo : Memo). memo.packets) (at_hand new number) ≡ Some (bytes ∷ [])
     → bytes ≡ packet_bytes held.own held.device held.count (message_of held.count command)
 sent_packet new held moment number command bytes h same some few here =
     let both : Some (bytes ∷ []) ≡ Some (packet_bytes held.own held.device held.count (message_of held.count command) ∷ []) =
@@ -78,7 +95,7 @@ module _ (held new : RequesterState) (moment : ℕ) (command : Command) (own : �
     omega arith,
   )
 
-  pub sent_is : (sent : SentRequest) → sent.own ≡ own → length sent.header ≡ HEADER → option_map (λ (memo : Memo). memo.packets) (new.remembered own) ≡ Some ((sent.header ++ sent.message.now) ∷ []) → IsSent held moment command sent
+  pub sent_is : (sent : SentRequest) → sent.own ≡ own → length sent.header ≡ HEADER → option_map (λ (memo : Memo). memo.packets) (at_hand new own) ≡ Some ((sent.header ++ sent.message.now) ∷ []) → IsSent held moment command sent
   sent_is sent same header packet =
       let bytes = sent_packet new held moment own command (sent.header ++ sent.message.now) after is.numbered some few packet in
       record {
@@ -123,6 +140,34 @@ goes_open held p n e = go (is_from_device held.device p) e
     go true e = open_number (is_open_in held) (latest_on held.count p.route.tag) n e
     go false e = absurd (cc)
 
+-- it is one of the last
+latest_near : (count tag n : ℕ) → latest_on count tag ≡ Some n → (n < count) × (count ≤ n + 8)
+latest_near count tag n e = go (nat_lt tag count) refl e
+  where
+    go : (b : Bool) → nat_lt tag count ≡ b → (if b then Some (count - 1 - (count - 1 - tag) % 8) else None) ≡ Some n → (n < count) × (count ≤ n + 8)
+    go true t e = let i = ltb-true tag count t in let same : count - 1 - (count - 1 - tag) % 8 ≡ n = cc in (omega (arith, i, same), omega (arith, i, same))
+    go false t e = absurd (cc)
+
+open_latest : (opens : ℕ → Bool) (to : Option ℕ) (n : ℕ) → where_open opens to ≡ Some n → to ≡ Some n
+open_latest opens None n e = absurd (cc)
+open_latest opens (Some number) n e = go (opens number) e
+  where
+    go : (b : Bool) → (if b then Some number else None) ≡ Some n → Some number ≡ Some n
+    go true e = e
+    go false e = absurd (cc)
+
+goes_near : (held : RequesterState) (p : Packet) (n : ℕ) → goes_to held p ≡ Some n → (n < held.count) × (held.count ≤ n + 8)
+goes_near held p n e = go (is_from_device held.device p) e
+  where
+    go : (b : Bool) → (if b then where_open (is_open_in held) (latest_on held.count p.route.tag) else None) ≡ Some n → (n < held.count) × (held.count ≤ n + 8)
+    go true e = latest_near held.count p.route.tag n (open_latest (is_open_in held) (latest_on held.count p.route.tag) n e)
+    go false e = absurd (cc)
+
+pub answer_near : (held : RequesterState) (read : Result Packet Reason) (n : ℕ) (message : List ℕ) → arrived_by held read ≡ Answer n message → (n < held.count) × (held.count ≤ n + 8)
+answer_near held (Err reason) n message e = absurd (cc)
+answer_near held (Ok p) n message e =
+    goes_near held p n (packet_number (goes_to held p) (λ number q. assembly.answer held.open_messages q) (is_mine held) p n message e)
+
 some_memo : (test : Course → Bool) (memo : Option Memo) → passes test memo ≡ true → (m : Memo) × (memo ≡ Some m)
 some_memo test None e = absurd (cc)
 some_memo test (Some m) e = (m, refl)
@@ -138,12 +183,20 @@ answer_of_got Part own e = absurd (cc)
 answer_of_got (Answer number message) own e = let same : number ≡ own = cc in (message, ap (λ n. Answer n message) same)
 
 -- what is held after an answer to this request
-pub progress_left : (held new : RequesterState) (moment : ℕ) (bytes : List ℕ) (own : ℕ) (message : List ℕ) → IsHeld new (received_held held moment bytes) → arrived_by held (passed held bytes) ≡ Answer own message
+pub progress_remembered : (held new : RequesterState) (moment : ℕ) (bytes : List ℕ) (own : ℕ) (message : List ℕ) → IsHeld new (received_held held moment bytes) → arrived_by held (passed held bytes) ≡ Answer own message
     → option_map (λ (memo : Memo). memo.course.progress) (new.remembered own) ≡ Some (courses.Answered message)
-progress_left held new moment bytes own message h e =
+progress_remembered held new moment bytes own message h e =
     let memo = answer_remembered held (passed held bytes) own message e in
     ap (option_map (λ (m : Memo). m.course.progress))
     (h.remembered own ∙ ap (λ arrival. remembered_after held arrival own) e ∙ cond-true (own == own) _ _ (eq-eqb own own refl) ∙ ap (option_map (with_course (courses.answered message))) memo.1)
+
+pub progress_left : (held new : RequesterState) (moment : ℕ) (bytes : List ℕ) (own : ℕ) (message : List ℕ) → IsHeld new (received_held held moment bytes) → arrived_by held (passed held bytes) ≡ Answer own message
+    → option_map (λ (memo : Memo). memo.course.progress) (at_hand new own) ≡ Some (courses.Answered message)
+progress_left held new moment bytes own message h e =
+    let near = answer_near held (passed held bytes) own message e in
+    let count = h.count in
+    ap (option_map (λ (memo : Memo). memo.course.progress)) (last_at_hand new own (omega (arith, near.0, count)) (omega (arith, near.1, count)))
+    ∙ progress_remembered held new moment bytes own message h e
 
 pub own_below : (count : ℕ) (slots : List Memo) (own : ℕ) (memo : Memo) → remembered_in count slots own ≡ Some memo → own < count
 own_below count slots own memo e = go (nat_lt own count) refl (nat_le count (own + MAX_REMEMBERED)) e
@@ -196,5 +249,5 @@ module _ (old new : Side) (moment : ℕ) (bytes : List ℕ) (got : Got) (after :
       go (Drop reason) at t = t
       go Part at t = t
       go (Answer n m) at t =
-          let progress = option_map (λ (memo : Memo). memo.course.progress) ((held_of new.station).remembered n) in
+          let progress = option_map (λ (memo : Memo). memo.course.progress) (at_hand (held_of new.station) n) in
           (t.0, t.1, t.2 ∙ ap (λ xs. slice_index xs n) same, same_answer progress t.0.message.now m t.3 (progress_left held (held_of new.station) moment bytes n m after at))

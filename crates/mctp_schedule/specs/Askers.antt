@@ -50,14 +50,14 @@ pub record IsSent (held : RequesterState) (moment : ℕ) (command : Command) (se
 -- a request is remembered, and has one packet, which has a header
 abbrev pub HasPacket : RequesterState → ℕ → Type 0
 HasPacket held number =
-    (bytes : List ℕ) × (option_map (λ memo. memo.packets) (held.remembered number) ≡ Some (bytes ∷ []))
+    (bytes : List ℕ) × (option_map (λ memo. memo.packets) (at_hand held number) ≡ Some (bytes ∷ []))
     × (HEADER ≤ length bytes)
 
 -- a request is remembered, and was answered
 abbrev pub HasAnswer : RequesterState → ℕ → Type 0
 HasAnswer held number =
     (message : List ℕ)
-    × (option_map (λ memo. memo.course.progress) (held.remembered number) ≡ Some (courses.Answered message))
+    × (option_map (λ memo. memo.course.progress) (at_hand held number) ≡ Some (courses.Answered message))
 
 -- the request that a packet answered, if any, has an answer, and a number over all requests
 abbrev pub IsAnswered : Side → Got → Type 0
@@ -71,7 +71,7 @@ ReportsAnswer side (gots.Dropped reason) answered = answered ≡ None
 ReportsAnswer side gots.Partial answered = answered ≡ None
 ReportsAnswer side (gots.Answered own) answered =
     (a : AnsweredRequest) × (answered ≡ Some a) × (a.number ≡ slice_index side.numbers own)
-    × (option_map (λ memo. memo.course.progress) ((held_of side.station).remembered own)
+    × (option_map (λ memo. memo.course.progress) (at_hand (held_of side.station) own)
     ≡ Some (courses.Answered a.message.now))
 
 -- the request that a packet answered is reported by its number over all requests, with its answer

@@ -99,7 +99,7 @@ impl Asker {
         requires { HasPacket (held_of self.now.station) own }
         ensures own { result.own ≡ own }
         ensures header { length result.header ≡ HEADER }
-        ensures packet { option_map (λ memo. memo.packets) ((held_of self.now.station).remembered own)
+        ensures packet { option_map (λ memo. memo.packets) (at_hand (held_of self.now.station) own)
             ≡ Some ((result.header ++ result.message.now) ∷ []) }
     {
         let packet = self.packet(own);
@@ -113,7 +113,7 @@ impl Asker {
     /// The packet of a request that is remembered.
     fn packet(&self, own: u64) -> &[u8]
         requires { HasPacket (held_of self.now.station) own }
-        ensures { option_map (λ memo. memo.packets) ((held_of self.now.station).remembered own)
+        ensures { option_map (λ memo. memo.packets) (at_hand (held_of self.now.station) own)
             ≡ Some (result.now ∷ []) }
     {
         match self.requester.packets(own) {

@@ -47,6 +47,7 @@ paced keep lifetime window = record {
   lifetime = lifetime;
   window = window;
   spread = not (lifetime == keep) || not (window == INSTANCE_IDS);
+  brief = false;
 }
 
 abbrev pub pace_of : ℕ → Option ℕ → ℕ → Pace

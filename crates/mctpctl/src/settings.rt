@@ -124,6 +124,7 @@ fn pace_of(keep: Keep, lifetime: Option<u64>, window: u8) -> Pace
         lifetime,
         window,
         spread: lifetime != whole || window != INSTANCE_IDS,
+        brief: false,
     }
 }
 

@@ -15,7 +15,7 @@ use Rattle.pldm_requester.specs.Asks.{Ask, ask_for, ask_of}
 use Rattle.pldm_requester.specs.Courses.{Progress, Waiting, Answered, GaveUp}
 use Rattle.pldm_requester.specs.Deadlines.{IsDeadline}
 use Rattle.pldm_requester.specs.Slots.{held_of}
-use Rattle.pldm_requester.specs.Steps.{RequesterState, IsHeld, Memo, again_at, given_up_at, got_at, opened_with, opening_answer, paced_at_first}
+use Rattle.pldm_requester.specs.Steps.{RequesterState, IsHeld, Memo, again_at, at_hand, given_up_at, got_at, opened_with, opening_answer, paced_at_first}
 use Rattle.pldm_requester.specs.Steps.{received_held, ticked_held}
 use Rattle.pldm_requester.specs.Pacing.{setting_fault}
 use Rattle.pldm_requester.specs.declared.results.Got.{Got}
@@ -225,7 +225,7 @@ abbrev pub fitting : ℕ → List ℕ → Option (List ℕ)
 fitting most bytes = if nat_le (length bytes) most then Some bytes else None
 
 abbrev pub memo_of : ℕ → Option RequesterState → Option Memo
-memo_of number held = option_and_then (λ (h : RequesterState). h.remembered number) held
+memo_of number held = option_and_then (λ (h : RequesterState). at_hand h number) held
 
 -- a packet of a request that is remembered, counted from 0: a request of a command is one packet
 abbrev pub packet_of : ℕ → ℕ → Option RequesterState → Option (List ℕ)

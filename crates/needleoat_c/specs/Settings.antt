@@ -68,7 +68,7 @@ lifetime_in lifetime keep = if lifetime == 0 then keep else lifetime
 -- the pace of a requester
 abbrev pub pace_in : RequesterSettings → Pace
 pace_in s =
-    record { lifetime = lifetime_in s.lifetime_ms s.keep_ms; window = window_in s.window; spread = false }
+    record { lifetime = lifetime_in s.lifetime_ms s.keep_ms; window = window_in s.window; spread = false; brief = s.brief }
 
 abbrev pub busy_in : ℕ → RestartPolicy
 busy_in busy = if busy == BUSY_SETS then Sets none_handed_on else All

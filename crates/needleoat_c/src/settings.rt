@@ -185,6 +185,8 @@ pub struct RequesterSettings {
     pub device: u8,
     /// How often a request is sent at most, 1 to 8.
     pub tries: u8,
+    /// Whether it keeps the packets and the answer of a request only while that is among the last 8, and not the last 32.
+    pub brief: bool,
     /// How long the device keeps an answer for copies, in milliseconds, 1 to 60,000.
     pub keep_ms: u32,
     /// How long after it was sent a request is sent again, in milliseconds.
@@ -215,6 +217,7 @@ impl RequesterSettings {
             lifetime: u64::from(lifetime),
             window: window.get(),
             spread: false,
+            brief: self.brief,
         })
     }
 }

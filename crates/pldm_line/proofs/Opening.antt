@@ -31,7 +31,7 @@ refused_by false false number fault e = cc
 
 opened_at : (a : Asking) (held1 : RequesterState) (command : Command) (opened : Opened) (written written1 : Option (List ℕ))
     → opening_answer a.held a.held.last ≡ Ok opened → held1 ≡ opened_held a.held a.held.last command
-    → Appends written written1 (memo_frames (held1.remembered opened.number))
+    → Appends written written1 (memo_frames (at_hand held1 opened.number))
     → asked.Opened command opened.number a (record a { held = held1 }) written written1
 opened_at a held1 command opened written written1 answer held wrote =
     let by = accepted_by (is_tag_in_use a.held) (is_id_in_use a.held a.held.last) a.held.count opened answer in
@@ -41,8 +41,8 @@ opened_at a held1 command opened written written1 answer held wrote =
       asking = ap (λ (h : RequesterState). record a { held = h }) held;
       wrote =
           subst (Appends written written1)
-          (ap (λ (h : RequesterState). memo_frames (h.remembered opened.number)) held
-          ∙ ap (λ n. memo_frames ((opened_held a.held a.held.last command).remembered n)) by.1
+          (ap (λ (h : RequesterState). memo_frames (at_hand h opened.number)) held
+          ∙ ap (λ n. memo_frames (at_hand (opened_held a.held a.held.last command) n)) by.1
           ∙ opened_frames a.held a.held.last command)
           wrote;
     }
@@ -50,7 +50,7 @@ opened_at a held1 command opened written written1 answer held wrote =
 -- it was opened at the last moment
 pub opened_now : (a : Asking) (held1 : RequesterState) (command : Command) (opened : Opened) (written written1 : Option (List ℕ)) (now : ℕ)
     → now ≡ a.held.last → opening_answer a.held now ≡ Ok opened → held1 ≡ opened_held a.held now command
-    → Appends written written1 (memo_frames (held1.remembered opened.number))
+    → Appends written written1 (memo_frames (at_hand held1 opened.number))
     → asked.Opened command opened.number a (record a { held = held1 }) written written1
 opened_now a held1 command opened written written1 now at answer held wrote =
     opened_at a held1 command opened written written1

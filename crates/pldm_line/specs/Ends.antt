@@ -4,7 +4,7 @@ use Rattle.pldm_line.specs.Turns.{Asking, Turn, after_turns, is_end}
 use Rattle.pldm_line.specs.declared.asking_line.Ended.{Ended}
 use Rattle.pldm_line.specs.declared.asking_line.Ended.TheVariants as ended
 use Rattle.pldm_requester.specs.Courses.{Progress, Waiting, Answered, GaveUp}
-use Rattle.pldm_requester.specs.Steps.{RequesterState, accepts}
+use Rattle.pldm_requester.specs.Steps.{RequesterState, accepts, at_hand}
 
 -- how a request ended: it was answered or given up, and no answer is kept of one that is remembered no longer
 abbrev pub ended_by : Option Progress → Option Ended
@@ -14,7 +14,7 @@ ended_by (Some (Answered message)) = Some ended.Answered
 ended_by (Some GaveUp) = Some ended.GaveUp
 
 abbrev pub progress_of : RequesterState → ℕ → Option Progress
-progress_of held number = option_map (λ memo. memo.course.progress) (held.remembered number)
+progress_of held number = option_map (λ memo. memo.course.progress) (at_hand held number)
 
 abbrev pub ended_of : RequesterState → ℕ → Option Ended
 ended_of held number = ended_by (progress_of held number)

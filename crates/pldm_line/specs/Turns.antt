@@ -55,7 +55,7 @@ memo_frames (Some memo) = flat_map framed memo.packets
 
 -- the frames of the packets of these requests
 abbrev pub frames_of : RequesterState → List ℕ → List ℕ
-frames_of held numbers = flat_map (λ number. memo_frames (held.remembered number)) numbers
+frames_of held numbers = flat_map (λ number. memo_frames (at_hand held number)) numbers
 
 -- what is held after packets that came at a moment
 abbrev pub received : RequesterState → ℕ → List (List ℕ) → RequesterState

@@ -191,7 +191,7 @@ pub(crate) fn send_request<W: Write>(
 ) -> Result<(), AskFault>
     requires { has_failed writer.old ≡ false }
     ensures bytes { OnOk result (Appends (W.contents (inner_of writer.old)) (W.contents (inner_of writer.new))
-        (memo_frames ((held_of requester.now).remembered number))) }
+        (memo_frames (at_hand (held_of requester.now) number))) }
     ensures flushed { OnOk result (StaysFlushed writer.old writer.new) }
     ensures fault { IfErr result (λ fault. fault ≡ AskFault.Write) }
     ensures write { ReportsFailed AskFault.Write result writer.new }

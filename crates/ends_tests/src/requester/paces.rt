@@ -23,6 +23,7 @@ fn paced(
         lifetime,
         window,
         spread,
+        brief: false,
     };
     Requester::with_pace(alloc, eid(rt, 8), eid(rt, 9), timing, pace)
 }

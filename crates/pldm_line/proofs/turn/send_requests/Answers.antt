@@ -17,11 +17,11 @@ loop-number-preserved g c =
     let numbers = c.args.numbers.now in
     let at = c.loop-number.number-index in
     let within : at < length numbers = search rules in
-    let more : Appends before end (memo_frames (held.remembered (get_or numbers at 0))) = search rules in
+    let more : Appends before end (memo_frames (at_hand held (get_or numbers at 0))) = search rules in
     record {
       wrote =
           subst (Appends start end) (sym (request_further held numbers at within))
-          (Appends-trans start before end (frames_of held (take at numbers)) (memo_frames (held.remembered (get_or numbers at 0))) i.wrote more);
+          (Appends-trans start before end (frames_of held (take at numbers)) (memo_frames (at_hand held (get_or numbers at 0))) i.wrote more);
       works = search rules;
       flushed = search rules;
     }
