@@ -12,7 +12,7 @@ use Rattle.pldm_requester.specs.Courses.{Course}
 use Rattle.pldm_requester.specs.Laws.{IsLeftBy, ReceiveLooksBack, SameIsLeft, memo_of}
 use Rattle.pldm_requester.specs.Slots.{held_of}
 use Rattle.pldm_requester.specs.Steps as held_steps
-use Rattle.pldm_requester.specs.Steps.{RequesterState, IsHeld, Memo, arrived_by, got_at, is_recent, received_held}
+use Rattle.pldm_requester.specs.Steps.{RequesterState, IsHeld, Memo, arrived_by, got_at, is_recent, received_held, is_kept, outline_if}
 use Rattle.pldm_requester.specs.declared.results.Got.{Got}
 use Rattle.pldm_requester.specs.declared.results.Got.TheVariants as got
 use Rattle.pldm_requester.specs.declared.pace.Pace.{Pace}
@@ -129,7 +129,7 @@ module _ {S : Type 0} (setting : BothEnds S) (w : World) (moment e : ℕ) (bytes
     stands : (r : Asked) (n : ℕ) (m : List ℕ) → r.source ≡ e → r.own ≡ n → brought ≡ Answer n m → (as_it_stands setting v r).progress ≡ courses.Answered m
     stands r n m at own is =
         let now = requests e setting.eid (timing_of setting e) setting.pace (requester.Receive moment bytes ∷ w.calls e) in
-        let near = answer_near (held_of side.station) (passed (held_of side.station) bytes) n m is in
+        let near = answer_near (held_of side.station) (held_steps.passed (held_of side.station) bytes) n m is in
         let memo = progress_remembered (held_of side.station) (held_of new.station) moment bytes n m x.new_held is in
         ap (λ d. ((requests d setting.eid (timing_of setting d) setting.pace (v.calls d)).each r.own).course.progress) at
         ∙ ap (λ cs. ((requests e setting.eid (timing_of setting e) setting.pace cs).each r.own).course.progress) (call_here w.calls e (requester.Receive moment bytes))

@@ -1,7 +1,7 @@
 -- With a window of all instance IDs a delivery that comes soon enough is in the window.
 use Rattle.std.proofs.Common.{◌≡◌, ℕ, ◌≤◌, List, [], ◌∷◌, Some, None, Option, Bool, true, false, refl, sym, ap, ◌∙◌, subst, ⊎_elim, arith, eqb-true, eq-eqb}
-use Rattle.std.specs.Prelude.{◌&&◌, ◌||◌, ◌==◌, is_some, if◌then◌else◌}
-use Rattle.std.specs.List.{find, list_any}
+use Rattle.std.specs.Prelude.{◌&&◌, ◌==◌, is_some}
+use Rattle.std.specs.List.{list_any}
 use Rattle.std.proofs.lemmas.Bool.{cases_Bool, and_from, and_parts, cond_both, cond-true}
 use Rattle.pldm_wire.specs.Headers.{id_at}
 use Rattle.pldm_wire.specs.declared.assigned.TheConstants.{INSTANCE_IDS}
@@ -14,7 +14,7 @@ use Rattle.mctp_schedule.proofs.ApartByTime.{apart_by_time, apart_in_time}
 use Rattle.mctp_schedule.proofs.IdsArrived.{any_is_found, ids_apart}
 use Rattle.pldm_responder.specs.Recency.{of_number, renewed}
 use Rattle.pldm_responder.proofs.NoIdFallsOut.{id_is_small}
-use Rattle.pldm_responder.proofs.RecentFirst.{Apart, Below, no_more, renewed_apart, renewed_below, renewed_finds, renewed_keeps, take_all}
+use Rattle.pldm_responder.proofs.RecentFirst.{Below, no_more, renewed_below, renewed_finds, renewed_keeps, take_all}
 use Rattle.mctp_schedule.specs.Laws.{AllIdsAreInTime}
 use Rattle.mctp_schedule.specs.Timely.{InTime, ids_arrived, is_in_window, with_first}
 

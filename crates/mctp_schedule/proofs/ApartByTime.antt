@@ -1,5 +1,5 @@
 -- Where the line's lifetime is the keeping time, instance IDs are used again so late that time alone frees them.
-use Rattle.std.proofs.Common.{ℕ, ◌+◌, ◌*◌, ◌≤◌, List, [], ◌∷◌, inl}
+use Rattle.std.proofs.Common.{ℕ, List, [], ◌∷◌, inl}
 use Rattle.mctp_schedule.specs.Logs.{Happening, Opened, Delivered, Sensed, WentDown, Apart}
 use Rattle.mctp_schedule.specs.Timely.{AreApart}
 

@@ -1,8 +1,8 @@
 -- Requests of other instance IDs that were opened once no request with an instance ID could come any more, and arrived,
 -- stand in front of it among those that arrived.
-use Rattle.std.proofs.Common.{◌≡◌, ◌≢◌, ◌⊎◌, ℕ, zero, suc, ◌+◌, ◌%◌, ◌<◌, ◌≤◌, Bool, true, false, cond, List, [], ◌∷◌, length, Option, Some, None, refl, sym, ap, ◌∙◌, subst, inl, inr, ⊎_elim, arith, eqb-true, eq-eqb}
-use Rattle.std.specs.Prelude.{◌&&◌, ◌==◌, not, is_some, filter, if◌then◌else◌}
-use Rattle.std.proofs.lemmas.Bool.{cases_Bool, cases_eq, and_from, and_parts, cond_both, cond-true, cond-false, ne_eqb}
+use Rattle.std.proofs.Common.{◌≡◌, ◌≢◌, ℕ, zero, suc, ◌+◌, ◌%◌, ◌<◌, ◌≤◌, Bool, true, false, cond, List, [], ◌∷◌, length, Option, Some, None, refl, sym, ap, ◌∙◌, subst, ⊎_elim, arith, eqb-true, eq-eqb}
+use Rattle.std.specs.Prelude.{◌&&◌, ◌==◌, is_some, filter, if◌then◌else◌}
+use Rattle.std.proofs.lemmas.Bool.{cases_Bool, and_from, and_parts, cond_both, cond-true, cond-false, ne_eqb}
 use Rattle.pldm_wire.specs.Headers.{id_at}
 use Rattle.pldm_requester.specs.Courses.{Course}
 use Rattle.pldm_requester.specs.Pacing.{newest}
@@ -11,7 +11,7 @@ use Rattle.pldm_responder.specs.Recency.{of_number, renewed, without}
 use Rattle.pldm_responder.proofs.CopiesByTheRule.{in_front, in_front_renewed}
 use Rattle.pldm_responder.proofs.RecentFirst.{another, dropped, found_later, renewed_finds, renewed_keeps, stays}
 use Rattle.mctp_schedule.specs.FirstArrivals.{arrives, earlier, first, is_first}
-use Rattle.mctp_schedule.specs.Logs.{Asked, Happening, Opened, Delivered, Sensed, WentDown, InOrder, asked_at, last_of, reached}
+use Rattle.mctp_schedule.specs.Logs.{Asked, Happening, Opened, Delivered, Sensed, WentDown, InOrder, asked_at, reached}
 use Rattle.mctp_schedule.specs.Timely.{InTime, ids_arrived, with_first}
 use Rattle.mctp_schedule.proofs.FirstPerformed.{first_below, is_first_of, opened_before, request_below, request_older}
 

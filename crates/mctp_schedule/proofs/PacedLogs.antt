@@ -1,26 +1,22 @@
 -- Over a timely schedule of requesters whose pace suits the device, an instance ID that is used again is free: what the
 -- device kept for it has expired, or is out of its window. So the log is timely, and each request is answered exactly
 -- where it was taken. Both are shown step by step, since an early use of an instance ID rests on the answers before it.
-use Rattle.std.proofs.Common.{◌≡◌, ◌≢◌, ◌⊎◌, ℕ, suc, ◌+◌, ◌-◌, ◌*◌, ◌%◌, ◌<◌, ◌≤◌, Bool, true, false, List, [], ◌∷◌, length, Option, Some, None, refl, sym, ap, ◌∙◌, subst, inl, inr, ⊎_elim, arith}
-use Rattle.std.specs.Prelude.{◌&&◌, ◌||◌, ◌==◌, not, nat_lt, nat_le, is_some, take, if◌then◌else◌}
-use Rattle.std.specs.List.{list_any}
+use Rattle.std.proofs.Common.{◌≡◌, ◌≢◌, ℕ, ◌+◌, ◌-◌, ◌*◌, ◌%◌, ◌<◌, ◌≤◌, true, false, List, [], ◌∷◌, length, Some, None, sym, ap, ◌∙◌, subst, inl, inr, ⊎_elim, arith}
+use Rattle.std.specs.Prelude.{◌==◌, not, nat_lt, nat_le, is_some, take}
 use Rattle.std.proofs.lemmas.Bool.{and_cases, and_parts, or_parts, not-true, cases_eq, cond-false, le-leb, le-ltb, leb-true, ltb-false}
 use Rattle.pldm_wire.specs.Headers.{id_at}
 use Rattle.pldm_wire.specs.declared.command.Command.{Command}
 use Rattle.pldm_requester.specs.Calls.{Requests, accepts, course_at, has_id_before, has_many_before, is_id_in_use, is_tag_in_use}
 use Rattle.pldm_requester.specs.Courses.{Course, Progress, Waiting, Answered, GaveUp, has_answer, is_answered}
 use Rattle.pldm_requester.specs.Pacing.{answered_after, is_answered_from, is_too_soon, newest}
-use Rattle.pldm_requester.specs.declared.pace.Pace.{Pace}
 use Rattle.pldm_responder.specs.Recency.{of_number}
 use Rattle.pldm_responder.proofs.CopiesByTheRule.{found_where, in_front}
-use Rattle.mctp_schedule.specs.FirstArrivals.{first}
 use Rattle.mctp_schedule.specs.Laws.{PacedLogIsTimely}
-use Rattle.mctp_schedule.specs.Logs.{Asked, Happening, asked_at}
+use Rattle.mctp_schedule.specs.Logs.{Asked, asked_at}
 use Rattle.mctp_schedule.specs.RequesterHalf.{IsSound, ProgressIs, SuitsDevice}
 use Rattle.mctp_schedule.specs.TakenReplies.{taken}
-use Rattle.mctp_schedule.specs.Timely.{IsTimelyLog, ids_arrived, is_in_window}
+use Rattle.mctp_schedule.specs.Timely.{ids_arrived, is_in_window}
 use Rattle.mctp_schedule.specs.Worlds.{IsTimely, NeverWentBack, BothEnds, World, asked_by, requests_of, time_now, timing_of, world}
-use Rattle.schedule_text.specs.declared.step.Action.TheVariants as actions
 use Rattle.schedule_text.specs.declared.step.Step.{Step}
 use Rattle.mctp_schedule.proofs.AnswerPacketOutcomes.{Lower}
 use Rattle.mctp_schedule.proofs.AnsweredWhereTaken.{AllHold, holds_done, sound_before}

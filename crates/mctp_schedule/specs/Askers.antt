@@ -9,7 +9,7 @@ use Rattle.pldm_requester.specs.Arrivals.{Arrival, Drop, Part, Answer}
 use Rattle.pldm_requester.specs.Courses as courses
 use Rattle.pldm_requester.specs.Numbering.{message_of, opened_as, route_of}
 use Rattle.pldm_requester.specs.Slots.{RequesterView, coded_view, held_of}
-use Rattle.pldm_requester.specs.Steps.{RequesterState, opening_answer}
+use Rattle.pldm_requester.specs.Steps.{RequesterState, opening_answer, at_hand}
 use Rattle.pldm_requester.specs.declared.results.Got.{Got}
 use Rattle.pldm_requester.specs.declared.results.Got.TheVariants as gots
 use Rattle.mctp_schedule.specs.declared.askers.AnsweredRequest.{AnsweredRequest}

@@ -3,7 +3,7 @@
 ghost use Rattle.std.specs.Prelude.{◌≡◌, ◌≤◌, ◌<◌, ◌∷◌, ◌++◌, [], Ok, Err, Some, IfOk, IfErr, OnOk, drop, take, slice_index, length, option_map};
 ghost use Rattle.std.specs.List.{AllByRecursion};
 ghost use Rattle.mctp_packet.specs.Packets.{written};
-ghost use Rattle.pldm_requester.specs.Steps.{IsHeld, again_at, given_up_at, got_at, opened_held, opening_answer, received_held, ticked_held};
+ghost use Rattle.pldm_requester.specs.Steps.{IsHeld, again_at, given_up_at, got_at, opened_held, opening_answer, received_held, ticked_held, at_hand};
 ghost use Rattle.pldm_requester.specs.Slots.{held_of};
 ghost use Rattle.mctp_schedule.specs.Askers.{HasPacket, IsAnswered, IsOpenedAs, ReportsAnswer};
 ghost use Rattle.mctp_schedule.specs.Entries.{due_over_all, numbered};

@@ -5,7 +5,7 @@ use Rattle.pldm_line.proofs.Sending.{opened_frames}
 use Rattle.pldm_line.specs.Asked as asked
 use Rattle.pldm_line.specs.Turns.{Asking, memo_frames}
 use Rattle.pldm_requester.specs.Calls.{open_answer}
-use Rattle.pldm_requester.specs.Steps.{RequesterState, accepts, opened_held, opening_answer, is_tag_in_use, is_id_in_use}
+use Rattle.pldm_requester.specs.Steps.{RequesterState, accepts, opened_held, opening_answer, is_tag_in_use, is_id_in_use, at_hand}
 use Rattle.pldm_requester.specs.declared.results.Opened.{Opened}
 use Rattle.pldm_requester.specs.declared.results.OpenFault.{OpenFault}
 use Rattle.pldm_requester.specs.declared.results.OpenFault.TheVariants.{Memory}

@@ -8,7 +8,7 @@ use Rattle.mctp_serial.specs.Readings.{Reading, after, idle, step}
 use Rattle.pldm_line.specs.declared.quiet.Quiet.{Quiet}
 use Rattle.pldm_line.specs.declared.quiet.TheConstants.{END_MS, END_READS}
 use Rattle.pldm_line.specs.Serving.{moment_after, packets_in}
-use Rattle.pldm_requester.specs.Steps.{RequesterState, Memo, again_at, got_at, paced_at_first, received_held, ticked_held}
+use Rattle.pldm_requester.specs.Steps.{RequesterState, Memo, again_at, got_at, paced_at_first, received_held, ticked_held, at_hand}
 use Rattle.pldm_requester.specs.declared.pace.Pace.{Pace}
 use Rattle.pldm_requester.specs.declared.results.Got.TheVariants.{Partial}
 use Rattle.pldm_requester.specs.declared.timing.Timing.{Timing}

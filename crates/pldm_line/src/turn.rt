@@ -10,7 +10,7 @@ ghost use Rattle.pldm_line.specs.Turns.{HearsByte, WantsMemory, framed, frames_o
 ghost use Rattle.mctpctl_input.specs.Ports.{inner_of, has_failed, BothWork, ReportsFailed, ReportsFailedPorts, StaysFlushed};
 ghost use Rattle.pldm_line.specs.Serving.{packets_in};
 ghost use Rattle.pldm_requester.specs.Slots.{held_of};
-ghost use Rattle.pldm_requester.specs.Steps.{again_at, ticked_held};
+ghost use Rattle.pldm_requester.specs.Steps.{again_at, ticked_held, at_hand};
 
 use crate::ask_fault::AskFault;
 use crate::asking_line::AskingLine;

@@ -5,6 +5,7 @@ use Rattle.std.proofs.KnownBytes.{Appends-trans}
 use Rattle.pldm_line.specs.Turns.{frames_of, memo_frames}
 use Rattle.pldm_line.proofs.Sending.{request_further}
 use Rattle.pldm_requester.specs.Slots.{held_of}
+use Rattle.pldm_requester.specs.Steps.{at_hand}
 use Rattle.pldm_line.proofs.turn.send_requests.Goals as goal
 
 pub loop-number-preserved : goal.loop-number-preserved
