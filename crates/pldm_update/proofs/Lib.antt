@@ -14,3 +14,6 @@ mod ManyFields
 mod PackageSteps
 mod PackageParts
 mod PackagesRead
+mod PartsRead
+mod IdentifiersRead
+mod IdentifiersKept

@@ -2,6 +2,14 @@ pub mod UpdateStates
 pub mod TableParts
 pub mod VersionTexts
 pub mod Pieces
+pub mod PackageFields
+pub mod Packages
+pub mod PackageReading
+pub mod PackageLaws
+pub mod DataParts
+pub mod Identifiers
+pub mod IdentifiersReading
+pub mod Applying
 pub mod Layouts
 pub mod FieldReading
 pub mod Commands
@@ -24,7 +32,3 @@ pub mod DeviceRequests
 pub mod ImagePieces
 pub mod AgentCalls
 pub mod AgentLaws
-pub mod PackageFields
-pub mod Packages
-pub mod PackageReading
-pub mod PackageLaws

@@ -1,18 +1,18 @@
 //! The answer in a completion code and data, or why they are none.
 
 ghost use Rattle.std.specs.Prelude.{◌≡◌, Ok, IfOk};
-ghost use Rattle.pldm_update.specs.AnswerReading.{activate_firmware_answer_row, cancel_update_answer_row, empty_answer, get_status_answer_row, pass_component_table_answer_row, request_firmware_data_answer_row, request_update_answer_row, update_answer_of, update_component_answer_row, update_success_of};
+ghost use Rattle.pldm_update.specs.AnswerReading.{activate_firmware_answer_row, cancel_update_answer_row, empty_answer, get_status_answer_row, pass_component_table_answer_row, query_device_identifiers_answer_row, request_firmware_data_answer_row, request_update_answer_row, update_answer_of, update_component_answer_row, update_success_of};
 ghost use Rattle.pldm_update.specs.Answers.{UpdateAnswerFields};
 ghost use Rattle.pldm_update.specs.FieldReading.{read_row};
 ghost use Rattle.pldm_update.specs.declared.answer.UpdateAnswer.{UpdateAnswer as UpdateAnswerValue};
 
 use crate::assigned::{
     ACTIVATE_FIRMWARE, APPLY_COMPLETE, CANCEL_UPDATE, CANCEL_UPDATE_COMPONENT, GET_STATUS,
-    PASS_COMPONENT_TABLE, REQUEST_FIRMWARE_DATA, REQUEST_UPDATE, TRANSFER_COMPLETE,
-    UPDATE_COMPONENT, VERIFY_COMPLETE,
+    PASS_COMPONENT_TABLE, QUERY_DEVICE_IDENTIFIERS, REQUEST_FIRMWARE_DATA, REQUEST_UPDATE,
+    TRANSFER_COMPLETE, UPDATE_COMPONENT, VERIFY_COMPLETE,
 };
 use crate::places::{end_at, piece_at, state_at, u8_at, u16_at, u32_at, u64_at};
-use crate::{UpdateAnswer, UpdateFault};
+use crate::{DeviceIdentifiers, UpdateAnswer, UpdateFault};
 use pldm_wire::Code;
 
 /// The answer to the command of this number that this completion code and the data after it are: another code than
@@ -44,6 +44,7 @@ fn success_in(command: u8, bytes: &[u8]) -> Result<UpdateAnswer, UpdateFault>
     ensures { result ≡ update_success_of command bytes.now }
 {
     match command {
+        QUERY_DEVICE_IDENTIFIERS => identifiers_answer_in(bytes),
         REQUEST_UPDATE => request_update_answer_in(bytes),
         PASS_COMPONENT_TABLE => pass_component_table_answer_in(bytes),
         UPDATE_COMPONENT => update_component_answer_in(bytes),
@@ -65,6 +66,14 @@ fn empty_answer_in(answer: UpdateAnswer, bytes: &[u8]) -> Result<UpdateAnswer, U
 {
     end_at(bytes, 0)?;
     Ok(answer)
+}
+
+/// QueryDeviceIdentifiers' answer: the device's descriptors.
+fn identifiers_answer_in(bytes: &[u8]) -> Result<UpdateAnswer, UpdateFault>
+    ensures { result ≡ read_row query_device_identifiers_answer_row bytes.now }
+{
+    let identifiers = DeviceIdentifiers::read(bytes)?;
+    Ok(UpdateAnswer::QueryDeviceIdentifiers { identifiers })
 }
 
 /// RequestUpdate's answer: meta data length, whether GetPackageData will be sent.

@@ -24,4 +24,6 @@ mod records;
 #[cfg(test)]
 mod smbus;
 #[cfg(test)]
+mod update_identifiers;
+#[cfg(test)]
 mod update_package;

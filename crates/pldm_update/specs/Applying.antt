@@ -1,0 +1,15 @@
+-- Which device record of a package is for a device: each of its descriptors is among those that identify the device
+-- (DSP0267, "Firmware device identification records").
+use Rattle.std.specs.Prelude.{◌==◌, Bool, ◌&&◌, bytes_eq, List}
+use Rattle.std.specs.List.{list_all, list_any}
+use Rattle.pldm_update.specs.Packages.{Descriptor, Device}
+
+-- the same type, and the same bytes
+abbrev pub is_same : Descriptor → Descriptor → Bool
+is_same one other = (one.kind == other.kind) && bytes_eq one.content other.content
+
+abbrev pub is_among : List Descriptor → Descriptor → Bool
+is_among identifiers d = list_any (is_same d) identifiers
+
+abbrev pub applies_to : List Descriptor → Device → Bool
+applies_to identifiers device = list_all (is_among identifiers) device.descriptors
