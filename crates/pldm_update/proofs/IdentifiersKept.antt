@@ -46,7 +46,7 @@ all_with ds d = flat_map-append descriptor_parts ds (d ∷ [])
 bytes_with : (ds : List Descriptor) (d : Descriptor) → parts_bytes (descriptors_parts (ds ++ d ∷ [])) ≡ parts_bytes (descriptors_parts ds) ++ parts_bytes (descriptor_parts d)
 bytes_with ds d = ap parts_bytes (all_with ds d) ∙ flat_map-append part_bytes (descriptors_parts ds) (descriptor_parts d)
 
-pub size_with : (ds : List Descriptor) (d : Descriptor) → length (parts_bytes (descriptors_parts (ds ++ d ∷ []))) ≡ length (parts_bytes (descriptors_parts ds)) + 4 + length d.content
+size_with : (ds : List Descriptor) (d : Descriptor) → length (parts_bytes (descriptors_parts (ds ++ d ∷ []))) ≡ length (parts_bytes (descriptors_parts ds)) + 4 + length d.content
 size_with ds d =
     omega (arith, ap length (bytes_with ds d), length-append (parts_bytes (descriptors_parts ds)) (parts_bytes (descriptor_parts d)), length-append d.content [])
 
@@ -67,9 +67,6 @@ more_is ds kind content h range few fits =
       ),
       omega (arith, size, fits),
     )
-
-pub more_fits : (ds : List Descriptor) (d : Descriptor) → IsIdentifiers (ds ++ d ∷ []) → (length ds < 255) × (length (identifiers_bytes ds) + 4 + length d.content ≤ MAX_UPDATE_DATA)
-more_fits ds d h = (omega (arith, h.1.1.0, length-append ds (d ∷ [])), omega (arith, size_with ds d, h.2))
 
 pub more_written : (ds : List Descriptor) (kind : ℕ) (content : List ℕ) (count : ℕ) (first : List ℕ) → first ≡ parts_bytes (descriptors_parts ds) → count ≡ length ds + 1
     → parts_bytes (parts_with count first kind content) ≡ identifiers_bytes (ds ++ descriptor kind content ∷ [])

@@ -17,3 +17,5 @@ mod PackagesRead
 mod PartsRead
 mod IdentifiersRead
 mod IdentifiersKept
+mod ParametersRead
+mod ParametersKept

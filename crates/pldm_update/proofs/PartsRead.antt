@@ -6,7 +6,7 @@ use Rattle.std.specs.List.{flat_map}
 use Rattle.byteorder.specs.Endian.{little_number, little_bytes}
 use Rattle.byteorder.specs.Numbers.{length-bytes_low_first, little_from-append, little_from-lt, little_from-take}
 use Rattle.pldm_wire.proofs.WrittenNumbers.{stands}
-use Rattle.pldm_update.specs.DataParts.{Part, Byte, Number, Bytes, part_bytes, parts_bytes, IsPart, PartIn, PartsIn}
+use Rattle.pldm_update.specs.DataParts.{Part, Byte, Number, Bytes, Sized, part_bytes, parts_bytes, IsPart, PartIn, PartsIn}
 use Rattle.pldm_update.specs.PackageFields.{Field, byte_at, number_at, list_at, many_at}
 use Rattle.pldm_update.specs.Packages.{Each}
 use Rattle.pldm_update.proofs.PackageSteps.{IsBytes, stepped, goes_on, went_by, goes_by, ok_is, written_again}
@@ -55,6 +55,15 @@ list_took n bytes x e =
     let counted : length (take n bytes) ≡ n = omega (arith, length-take n bytes) in
     subst (λ (y : List ℕ × List ℕ). Took (Bytes y.0 ∷ []) bytes y.1 × (length y.0 ≡ n)) (ok_is e1)
     (one_part (Bytes (take n bytes)) (take n bytes) (drop n bytes) bytes refl (sym (take-append-drop n bytes)), counted))
+
+pub sized_took : (n : ℕ) (bytes : List ℕ) (x : List ℕ × List ℕ) → list_at n bytes ≡ Ok x → Took (Sized n x.0 ∷ []) bytes x.1
+unfolding list_at
+sized_took n bytes x e =
+    went_by _ e (λ t e1.
+    let enough : n ≤ length bytes = ltb-false _ _ t in
+    let counted : length (take n bytes) ≡ n = omega (arith, length-take n bytes) in
+    subst (λ (y : List ℕ × List ℕ). Took (Sized n y.0 ∷ []) bytes y.1) (ok_is e1)
+    (one_part (Sized n (take n bytes)) (take n bytes) (drop n bytes) bytes (refl, counted) (sym (take-append-drop n bytes))))
 
 pub many_took : {A : Type 0} (item_at : List ℕ → Field A) (parts : A → List Part) → ((bytes : List ℕ) (x : A × List ℕ) → item_at bytes ≡ Ok x → Took (parts x.0) bytes x.1)
     → (count : ℕ) (bytes : List ℕ) (x : List A × List ℕ) → many_at item_at count bytes ≡ Ok x → Took (flat_map parts x.0) bytes x.1 × (length x.0 ≡ count)
@@ -105,6 +114,12 @@ list_reads n text ps bytes rest count t =
       left = record { here = s.1; stand = s.3; split = refl };
     }
 
+pub sized_reads : (n : ℕ) (text : List ℕ) (ps : List Part) (bytes rest : List ℕ) → Took (Sized n text ∷ ps) bytes rest → Reads (list_at n bytes) text ps rest
+sized_reads n text ps bytes rest t =
+    let s = t.stand in
+    let count : length text ≡ n = ap length (sym s.2.0) ∙ s.2.1 in
+    list_reads n text ps bytes rest count (record { here = t.here; stand = (s.0, s.1, s.2.0, s.3, s.4); split = t.split })
+
 abbrev pub ItemReads : {A : Type 0} → (List ℕ → Field A) → (A → List Part) → Type 0
 ItemReads {A = A} item_at parts = (a : A) (ps : List Part) (bytes rest : List ℕ) → Took (parts a ++ ps) bytes rest → Reads (item_at bytes) a ps rest
 
@@ -135,6 +150,7 @@ part_length : (part : Part) (here : List ℕ) → PartIn part here → length he
 part_length (Byte b) here p = ap length p
 part_length (Number n x) here p = p.0 ∙ sym (length-bytes_low_first 0 n x)
 part_length (Bytes text) here p = ap length p
+part_length (Sized n text) here p = ap length p.0
 
 pub parts_length : (ps : List Part) (bytes : List ℕ) → PartsIn ps bytes → length bytes ≡ length (parts_bytes ps)
 parts_length [] bytes h = ap length h
@@ -147,6 +163,7 @@ part_written : (part : Part) → IsPart part → PartIn part (part_bytes part)
 part_written (Byte b) h = refl
 part_written (Number n x) h = stands n x h
 part_written (Bytes text) h = refl
+part_written (Sized n text) h = (refl, h)
 
 pub parts_written : (ps : List Part) → Each IsPart ps → PartsIn ps (parts_bytes ps)
 parts_written [] h = refl
@@ -171,6 +188,7 @@ part_is (Number n x) here small p =
     let same : little_bytes n (little_number n here) ≡ take n here = written_again n here small (omega (arith, p.0)) in
     (sym (ap (little_bytes n) p.1 ∙ same ∙ take_all n here (omega (arith, p.0))), subst (λ (m : ℕ). m < 256 ^ n) (sym p.1) (little_from-lt 0 n here small))
 part_is (Bytes text) here small p = (p, tt)
+part_is (Sized n text) here small p = (p.0, ap length (sym p.0) ∙ p.1)
 
 pub parts_are : (ps : List Part) (bytes : List ℕ) → IsBytes bytes → PartsIn ps bytes → (bytes ≡ parts_bytes ps) × Each IsPart ps
 parts_are [] bytes small h = (h, tt)

@@ -4,6 +4,7 @@ use Rattle.std.specs.Prelude.{◌≡◌, ℕ, ◌<◌, ◌≤◌, ◌^◌, List,
 use Rattle.byteorder.specs.Endian.{little_number, little_bytes}
 use Rattle.pldm_update.specs.Identifiers.{identifiers_bytes, IsIdentifiers, IdentifiersIn}
 use Rattle.pldm_update.specs.Packages.{Descriptor}
+use Rattle.pldm_update.specs.Parameters.{FirmwareParameters, parameters_bytes, AreParameters, ParametersIn}
 use Rattle.pldm_update.specs.TableParts.{part_number}
 use Rattle.pldm_update.specs.UpdateStates.{state_number}
 use Rattle.pldm_update.specs.VersionTexts.{VersionText, IsVersionText}
@@ -23,12 +24,13 @@ pub data Shape : Type 0 where
   -- a version string: its type, its length, and as many bytes
   Text : Shape
 
--- fields one after another, and then nothing, or the rest of the data: of so many bytes at most, or descriptors of a
--- device
+-- fields one after another, and then nothing, or the rest of the data: of so many bytes at most, descriptors of a
+-- device, or its firmware parameters
 pub data Layout : Type 0 where
   End : Layout
   Rest : ℕ → Layout
   Identifiers : Layout
+  Parameters : Layout
   Then : Shape → Layout → Layout
 
 -- the value of a field
@@ -44,6 +46,7 @@ abbrev pub Values : Layout → Type 0
 Values End = Unit {0}
 Values (Rest most) = List ℕ
 Values Identifiers = List Descriptor
+Values Parameters = FirmwareParameters
 Values (Then shape layout) = Value shape × Values layout
 
 -- the bytes that a field is written as
@@ -59,6 +62,7 @@ abbrev pub bytes_of : (layout : Layout) → Values layout → List ℕ
 bytes_of End values = []
 bytes_of (Rest most) rest = rest
 bytes_of Identifiers descriptors = identifiers_bytes descriptors
+bytes_of Parameters parameters = parameters_bytes parameters
 bytes_of (Then shape layout) values = field_bytes shape values.0 ++ bytes_of layout values.1
 
 -- the range of a field
@@ -74,6 +78,7 @@ abbrev pub AllInRange : (layout : Layout) → Values layout → Type 0
 AllInRange End values = Unit {0}
 AllInRange (Rest most) rest = length rest ≤ most
 AllInRange Identifiers descriptors = IsIdentifiers descriptors
+AllInRange Parameters parameters = AreParameters parameters
 AllInRange (Then shape layout) values = InRange shape values.0 × AllInRange layout values.1
 
 -- the field stands in exactly these bytes
@@ -89,6 +94,7 @@ abbrev pub StandIn : (layout : Layout) → Values layout → List ℕ → Type 0
 StandIn End values bytes = bytes ≡ []
 StandIn (Rest most) rest bytes = (bytes ≡ rest) × (length rest ≤ most)
 StandIn Identifiers descriptors bytes = IdentifiersIn descriptors bytes
+StandIn Parameters parameters bytes = ParametersIn parameters bytes
 StandIn (Then shape layout) values bytes =
     (here : List ℕ) × (rest : List ℕ) × StandsIn shape values.0 here × StandIn layout values.1 rest
     × (bytes ≡ here ++ rest)

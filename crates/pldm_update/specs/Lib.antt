@@ -10,6 +10,8 @@ pub mod DataParts
 pub mod Identifiers
 pub mod IdentifiersReading
 pub mod Applying
+pub mod Parameters
+pub mod ParametersReading
 pub mod Layouts
 pub mod FieldReading
 pub mod Commands

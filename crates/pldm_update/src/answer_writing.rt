@@ -35,6 +35,9 @@ fn spelled(answer: &UpdateAnswer) -> UpdateData
         UpdateAnswer::QueryDeviceIdentifiers { identifiers } => {
             data_of(&[Field::Bytes(identifiers.as_slice())])
         }
+        UpdateAnswer::GetFirmwareParameters { parameters } => {
+            data_of(&[Field::Bytes(parameters.as_slice())])
+        }
         UpdateAnswer::RequestUpdate {
             meta_data_bytes,
             sends_package_data,

@@ -6,6 +6,10 @@ pub returns-in-QueryDeviceIdentifiers-clause-items : goal.returns-in-QueryDevice
 returns-in-QueryDeviceIdentifiers-clause-items c =
     rw c.in-QueryDeviceIdentifiers.is (rw (c.as_slice.ensures.bytes, append-nil) at c.data_of.ensures)
 
+pub returns-in-GetFirmwareParameters-clause-items : goal.returns-in-GetFirmwareParameters-clause-items
+returns-in-GetFirmwareParameters-clause-items c =
+    rw c.in-GetFirmwareParameters.is (rw (c.as_slice-in-GetFirmwareParameters.ensures.bytes, append-nil) at c.data_of-in-GetFirmwareParameters.ensures)
+
 pub returns-in-RequestUpdate-clause-items : goal.returns-in-RequestUpdate-clause-items
 returns-in-RequestUpdate-clause-items c = rw c.in-RequestUpdate.is c.data_of-in-RequestUpdate.ensures
 
