@@ -28,6 +28,7 @@ pub mod DeviceAnswers
 pub mod Deeds
 pub mod DeviceCalls
 pub mod Receiving
+pub mod DeviceIdentity
 pub mod DeviceLaws
 pub mod Agents
 pub mod DeviceRequests

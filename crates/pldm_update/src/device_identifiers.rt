@@ -106,6 +106,15 @@ impl DeviceIdentifiers {
         false
     }
 
+    /// The same once more.
+    pub(crate) fn again(&self) -> DeviceIdentifiers
+        ensures { result ≡ self.now }
+    {
+        DeviceIdentifiers {
+            bytes: data_of(&[Field::Bytes(self.bytes.as_slice())]),
+        }
+    }
+
     /// The data of an answer with them: the descriptors' length, how many there are, and they, numbers with their lowest
     /// byte first.
     pub fn as_slice(&self) -> &[u8]

@@ -135,6 +135,15 @@ impl FirmwareParameters {
         }
     }
 
+    /// The same once more.
+    pub(crate) fn again(&self) -> FirmwareParameters
+        ensures { result ≡ self.now }
+    {
+        FirmwareParameters {
+            bytes: data_of(&[Field::Bytes(self.bytes.as_slice())]),
+        }
+    }
+
     /// The data of an answer with them, numbers with their lowest byte first.
     pub fn as_slice(&self) -> &[u8]
         ensures bytes { result.now ≡ parameters_bytes self.now }

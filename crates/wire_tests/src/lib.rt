@@ -27,3 +27,5 @@ mod smbus;
 mod update_identifiers;
 #[cfg(test)]
 mod update_package;
+#[cfg(test)]
+mod update_parameters;
