@@ -2,15 +2,15 @@
 use Rattle.std.proofs.Common.{◌≡◌, ℕ, not, List, [], ◌∷◌, length, Result, Ok, Err, IfOk, refl, sym, ap, subst, ◌∙◌, arith, eqb-true, ltb-false}
 use Rattle.std.proofs.lemmas.Bool.{eq-eqb, eqb-false, le-ltb, ne_eqb}
 use Rattle.std.proofs.lemmas.List.{append-nil}
-use Rattle.pldm_update.specs.DataParts.{Part, Byte, Number, Bytes, parts_bytes}
+use Rattle.pldm_update.specs.DataParts.{Part, Byte, Number, parts_bytes}
 use Rattle.pldm_update.specs.Identifiers.{descriptor_parts, descriptors_parts, identifiers_parts, identifiers_bytes, IsIdentifiers, IdentifiersIn}
 use Rattle.pldm_update.specs.IdentifiersReading.{identifiers_at, or_field_fault}
 use Rattle.pldm_update.specs.PackageReading.{descriptor_at}
 use Rattle.pldm_update.specs.Packages.{Descriptor}
 use Rattle.pldm_update.specs.declared.limits.TheConstants.{MAX_UPDATE_DATA}
 use Rattle.pldm_update.specs.declared.package_fault.PackageFault.{PackageFault}
-use Rattle.pldm_update.proofs.PackageSteps.{IsBytes, stepped, goes_on, went_by, goes_by, not_false, ok_is}
-use Rattle.pldm_update.proofs.PartsRead.{Took, and_then_took, byte_took, number_took, list_took, many_took, ItemReads, byte_reads, number_reads, list_reads, many_reads, none_took, all_took, took_all, parts_length, parts_written, parts_are}
+use Rattle.pldm_update.proofs.PackageSteps.{IsBytes, stepped, went_by, goes_by, not_false, ok_is}
+use Rattle.pldm_update.proofs.PartsRead.{Took, and_then_took, byte_took, number_took, list_took, many_took, ItemReads, byte_reads, number_reads, list_reads, then_reads, then_is, all_read, many_reads, none_took, all_took, took_all, parts_length, parts_written, parts_are}
 
 pub descriptor_took : (bytes : List ℕ) (x : Descriptor × List ℕ) → descriptor_at bytes ≡ Ok x → Took (descriptor_parts x.0) bytes x.1
 unfolding descriptor_at
@@ -24,10 +24,9 @@ descriptor_took bytes x e =
 pub descriptor_reads : ItemReads descriptor_at descriptor_parts
 unfolding descriptor_at
 descriptor_reads d ps bytes rest t =
-    let kind = number_reads 2 d.kind (Number 2 (length d.content) ∷ Bytes d.content ∷ ps) bytes rest t in
-    let count = number_reads 2 (length d.content) (Bytes d.content ∷ ps) kind.next rest kind.left in
-    let content = list_reads (length d.content) d.content ps count.next rest refl count.left in
-    record { next = content.next; is = goes_on _ kind.is (goes_on _ count.is (goes_on _ content.is refl)); left = content.left }
+    then_reads _ (number_reads 2 d.kind _ bytes rest t) (λ b1 t1.
+    then_reads _ (number_reads 2 (length d.content) _ b1 rest t1) (λ b2 t2.
+    then_reads _ (list_reads (length d.content) d.content _ b2 rest refl t2) (λ b3 t3. all_read t3)))
 
 pub found_in : (bytes : List ℕ) (ds : List Descriptor) → identifiers_at bytes ≡ Ok ds → IdentifiersIn ds bytes
 unfolding identifiers_at
@@ -52,18 +51,13 @@ pub identifiers_only : (bytes : List ℕ) (ds : List Descriptor) → Identifiers
 unfolding identifiers_at
 identifiers_only bytes ds h =
     let parts = descriptors_parts ds in
-    let size = number_reads 4 (length (parts_bytes parts)) (Byte (length ds) ∷ parts) bytes [] (took_all (identifiers_parts ds) bytes h.0) in
-    let count = byte_reads (length ds) parts size.next [] size.left in
-    let own = all_took parts count.next [] refl count.left in
-    let all = many_reads descriptor_at descriptor_parts descriptor_reads ds [] count.next [] (subst (λ (l : List Part). Took l count.next []) (sym (append-nil _)) count.left) in
-    let none : length all.next ≡ 0 = ap length (none_took all.next [] all.left) in
-    goes_on _ size.is
-    (goes_on _ count.is
-    (goes_by _ (ap not (eq-eqb _ _ (sym (parts_length parts count.next own))))
+    then_is _ (number_reads 4 (length (parts_bytes parts)) _ bytes [] (took_all (identifiers_parts ds) bytes h.0)) (λ b1 t1.
+    then_is _ (byte_reads (length ds) parts b1 [] t1) (λ b2 t2.
+    goes_by _ (ap not (eq-eqb _ _ (sym (parts_length parts b2 (all_took parts b2 [] refl t2)))))
     (goes_by _ (le-ltb MAX_UPDATE_DATA (length bytes) h.2)
     (goes_by _ (ne_eqb (length ds) 0 (omega (arith, h.1)))
-    (goes_on _ all.is
-    (goes_by _ (ap not (eq-eqb _ _ none)) refl))))))
+    (then_is _ (many_reads descriptor_at descriptor_parts descriptor_reads ds [] b2 [] (subst (λ (l : List Part). Took l b2 []) (sym (append-nil _)) t2)) (λ b3 t3.
+    goes_by _ (ap not (eq-eqb _ _ (ap length (none_took b3 [] t3)))) refl))))))
 
 sound : (bytes : List ℕ) (read : Result (List Descriptor) PackageFault) → ((ds : List Descriptor) → read ≡ Ok ds → IdentifiersIn ds bytes) → IfOk (or_field_fault read) (λ ds. IdentifiersIn ds bytes)
 sound bytes (Ok ds) h = h ds refl

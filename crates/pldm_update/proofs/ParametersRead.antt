@@ -3,15 +3,15 @@ use Rattle.std.proofs.Common.{◌≡◌, ℕ, not, List, [], ◌∷◌, ◌++◌
 use Rattle.std.proofs.lemmas.Bool.{eq-eqb, le-ltb}
 use Rattle.std.proofs.lemmas.List.{append-nil}
 use Rattle.std.specs.List.{flat_map}
-use Rattle.pldm_update.specs.DataParts.{Part, Byte, Number, Bytes, Sized}
+use Rattle.pldm_update.specs.DataParts.{Part, Byte, Number, Sized}
 use Rattle.pldm_update.specs.IdentifiersReading.{or_field_fault}
 use Rattle.pldm_update.specs.Parameters.{ComponentVersion, ComponentParameters, FirmwareParameters, version_parts, component_parts, parameters_parts, parameters_bytes, AreParameters, ParametersIn}
 use Rattle.pldm_update.specs.ParametersReading.{VersionHead, version_at, with_text, component_at, parameters_at}
 use Rattle.pldm_update.specs.VersionTexts.{version_text}
 use Rattle.pldm_update.specs.declared.limits.TheConstants.{MAX_UPDATE_DATA, RELEASE_BYTES}
 use Rattle.pldm_update.specs.declared.package_fault.PackageFault.{PackageFault}
-use Rattle.pldm_update.proofs.PackageSteps.{IsBytes, stepped, goes_on, went_by, goes_by, not_false, ok_is}
-use Rattle.pldm_update.proofs.PartsRead.{Took, and_then_took, byte_took, number_took, list_took, sized_took, many_took, Reads, ItemReads, byte_reads, number_reads, list_reads, sized_reads, many_reads, none_took, all_took, took_all, parts_written, parts_are}
+use Rattle.pldm_update.proofs.PackageSteps.{IsBytes, stepped, went_by, goes_by, not_false, ok_is}
+use Rattle.pldm_update.proofs.PartsRead.{Took, and_then_took, byte_took, number_took, list_took, sized_took, many_took, Reads, ItemReads, byte_reads, number_reads, list_reads, sized_reads, then_reads, then_is, all_read, many_reads, none_took, all_took, took_all, parts_written, parts_are}
 
 -- a version without its string
 head_parts : VersionHead → List Part
@@ -32,11 +32,10 @@ head_of v = record { comparison_stamp = v.comparison_stamp; string_type = v.vers
 head_reads : (v : ComponentVersion) (ps : List Part) (bytes rest : List ℕ) → Took (version_parts v ++ ps) bytes rest → Reads (version_at bytes) (head_of v) ps rest
 unfolding version_at
 head_reads v ps bytes rest t =
-    let stamp = number_reads 4 v.comparison_stamp (Byte v.version.string_type ∷ Byte (length v.version.text) ∷ Sized RELEASE_BYTES v.release ∷ ps) bytes rest t in
-    let kind = byte_reads v.version.string_type (Byte (length v.version.text) ∷ Sized RELEASE_BYTES v.release ∷ ps) stamp.next rest stamp.left in
-    let count = byte_reads (length v.version.text) (Sized RELEASE_BYTES v.release ∷ ps) kind.next rest kind.left in
-    let release = sized_reads RELEASE_BYTES v.release ps count.next rest count.left in
-    record { next = release.next; is = goes_on _ stamp.is (goes_on _ kind.is (goes_on _ count.is (goes_on _ release.is refl))); left = release.left }
+    then_reads _ (number_reads 4 v.comparison_stamp _ bytes rest t) (λ b1 t1.
+    then_reads _ (byte_reads v.version.string_type _ b1 rest t1) (λ b2 t2.
+    then_reads _ (byte_reads (length v.version.text) _ b2 rest t2) (λ b3 t3.
+    then_reads _ (sized_reads RELEASE_BYTES v.release _ b3 rest t3) (λ b4 t4. all_read t4))))
 
 -- the string has as many bytes as its head says
 head_counted : (head : VersionHead) (text bytes rest : List ℕ) → length text ≡ head.count → Took (head_parts head) bytes rest → Took (version_parts (with_text head text)) bytes rest
@@ -64,28 +63,15 @@ component_took bytes x e =
 pub component_reads : ItemReads component_at component_parts
 unfolding component_at
 component_reads c ps bytes rest t =
-    let after_strings = ps in
-    let after_active : List Part = Bytes c.pending.version.text ∷ ps in
-    let after_capabilities : List Part = Bytes c.active.version.text ∷ after_active in
-    let after_methods : List Part = Number 4 c.capabilities ∷ after_capabilities in
-    let after_pending : List Part = Number 2 c.activation_methods ∷ after_methods in
-    let after_head : List Part = version_parts c.pending ++ after_pending in
-    let after_index : List Part = version_parts c.active ++ after_head in
-    let classification = number_reads 2 c.component.classification (Number 2 c.component.identifier ∷ Byte c.component.index ∷ after_index) bytes rest t in
-    let identifier = number_reads 2 c.component.identifier (Byte c.component.index ∷ after_index) classification.next rest classification.left in
-    let index = byte_reads c.component.index after_index identifier.next rest identifier.left in
-    let active = head_reads c.active after_head index.next rest index.left in
-    let pending = head_reads c.pending after_pending active.next rest active.left in
-    let methods = number_reads 2 c.activation_methods after_methods pending.next rest pending.left in
-    let capabilities = number_reads 4 c.capabilities after_capabilities methods.next rest methods.left in
-    let active_text = list_reads (length c.active.version.text) c.active.version.text after_active capabilities.next rest refl capabilities.left in
-    let pending_text = list_reads (length c.pending.version.text) c.pending.version.text ps active_text.next rest refl active_text.left in
-    record {
-      next = pending_text.next;
-      is = goes_on _ classification.is (goes_on _ identifier.is (goes_on _ index.is (goes_on _ active.is (goes_on _ pending.is (goes_on _ methods.is
-          (goes_on _ capabilities.is (goes_on _ active_text.is (goes_on _ pending_text.is refl))))))));
-      left = pending_text.left;
-    }
+    then_reads _ (number_reads 2 c.component.classification _ bytes rest t) (λ b1 t1.
+    then_reads _ (number_reads 2 c.component.identifier _ b1 rest t1) (λ b2 t2.
+    then_reads _ (byte_reads c.component.index _ b2 rest t2) (λ b3 t3.
+    then_reads _ (head_reads c.active _ b3 rest t3) (λ b4 t4.
+    then_reads _ (head_reads c.pending _ b4 rest t4) (λ b5 t5.
+    then_reads _ (number_reads 2 c.activation_methods _ b5 rest t5) (λ b6 t6.
+    then_reads _ (number_reads 4 c.capabilities _ b6 rest t6) (λ b7 t7.
+    then_reads _ (list_reads (length c.active.version.text) c.active.version.text _ b7 rest refl t7) (λ b8 t8.
+    then_reads _ (list_reads (length c.pending.version.text) c.pending.version.text _ b8 rest refl t8) (λ b9 t9. all_read t9)))))))))
 
 pub found_in : (bytes : List ℕ) (p : FirmwareParameters) → parameters_at bytes ≡ Ok p → ParametersIn p bytes
 unfolding parameters_at
@@ -112,28 +98,17 @@ found_in bytes p e =
 pub parameters_only : (bytes : List ℕ) (p : FirmwareParameters) → ParametersIn p bytes → parameters_at bytes ≡ Ok p
 unfolding parameters_at
 parameters_only bytes p h =
-    let all : List Part = flat_map component_parts p.components in
-    let after_active : List Part = Bytes p.pending.text ∷ all in
-    let after_counts : List Part = Bytes p.active.text ∷ after_active in
-    let after_pending_type : List Part = Byte (length p.pending.text) ∷ after_counts in
-    let after_active_count : List Part = Byte p.pending.string_type ∷ after_pending_type in
-    let after_active_type : List Part = Byte (length p.active.text) ∷ after_active_count in
-    let after_count : List Part = Byte p.active.string_type ∷ after_active_type in
-    let after_capabilities : List Part = Number 2 (length p.components) ∷ after_count in
-    let capabilities = number_reads 4 p.capabilities after_capabilities bytes [] (took_all (parameters_parts p) bytes h.0) in
-    let count = number_reads 2 (length p.components) after_count capabilities.next [] capabilities.left in
-    let active_type = byte_reads p.active.string_type after_active_type count.next [] count.left in
-    let active_count = byte_reads (length p.active.text) after_active_count active_type.next [] active_type.left in
-    let pending_type = byte_reads p.pending.string_type after_pending_type active_count.next [] active_count.left in
-    let pending_count = byte_reads (length p.pending.text) after_counts pending_type.next [] pending_type.left in
-    let active = list_reads (length p.active.text) p.active.text after_active pending_count.next [] refl pending_count.left in
-    let pending = list_reads (length p.pending.text) p.pending.text all active.next [] refl active.left in
-    let components = many_reads component_at component_parts component_reads p.components [] pending.next [] (subst (λ (l : List Part). Took l pending.next []) (sym (append-nil _)) pending.left) in
-    let none : length components.next ≡ 0 = ap length (none_took components.next [] components.left) in
     goes_by _ (le-ltb MAX_UPDATE_DATA (length bytes) h.1)
-    (goes_on _ capabilities.is (goes_on _ count.is (goes_on _ active_type.is (goes_on _ active_count.is (goes_on _ pending_type.is (goes_on _ pending_count.is
-    (goes_on _ active.is (goes_on _ pending.is (goes_on _ components.is
-    (goes_by _ (ap not (eq-eqb _ _ none)) refl))))))))))
+    (then_is _ (number_reads 4 p.capabilities _ bytes [] (took_all (parameters_parts p) bytes h.0)) (λ b1 t1.
+    then_is _ (number_reads 2 (length p.components) _ b1 [] t1) (λ b2 t2.
+    then_is _ (byte_reads p.active.string_type _ b2 [] t2) (λ b3 t3.
+    then_is _ (byte_reads (length p.active.text) _ b3 [] t3) (λ b4 t4.
+    then_is _ (byte_reads p.pending.string_type _ b4 [] t4) (λ b5 t5.
+    then_is _ (byte_reads (length p.pending.text) _ b5 [] t5) (λ b6 t6.
+    then_is _ (list_reads (length p.active.text) p.active.text _ b6 [] refl t6) (λ b7 t7.
+    then_is _ (list_reads (length p.pending.text) p.pending.text (flat_map component_parts p.components) b7 [] refl t7) (λ b8 t8.
+    then_is _ (many_reads component_at component_parts component_reads p.components [] b8 [] (subst (λ (l : List Part). Took l b8 []) (sym (append-nil _)) t8)) (λ b9 t9.
+    goes_by _ (ap not (eq-eqb _ _ (ap length (none_took b9 [] t9)))) refl))))))))))
 
 sound : (bytes : List ℕ) (read : Result FirmwareParameters PackageFault) → ((p : FirmwareParameters) → read ≡ Ok p → ParametersIn p bytes) → IfOk (or_field_fault read) (λ p. ParametersIn p bytes)
 sound bytes (Ok p) h = h p refl

@@ -1,5 +1,5 @@
 -- Parts that are read from the front of bytes stand in what was taken, and parts that stand there are read.
-use Rattle.std.proofs.Common.{◌≡◌, ℕ, zero, suc, ◌^◌, ◌<◌, ◌≤◌, false, ltb, List, [], ◌∷◌, ◌++◌, length, slice_index, take, drop, Ok, refl, sym, ap, subst, ◌∙◌, append_assoc, arith, ltb-false}
+use Rattle.std.proofs.Common.{◌≡◌, ℕ, zero, suc, ◌^◌, ◌<◌, ◌≤◌, false, ltb, List, [], ◌∷◌, ◌++◌, length, slice_index, take, drop, Result, Ok, refl, sym, ap, subst, ◌∙◌, append_assoc, arith, ltb-false}
 use Rattle.std.proofs.lemmas.Bool.{le-ltb}
 use Rattle.std.proofs.lemmas.List.{append-nil, drop_at, length-append, length-take, take-append-drop, take_all, take_at}
 use Rattle.std.specs.List.{flat_map}
@@ -7,8 +7,9 @@ use Rattle.byteorder.specs.Endian.{little_number, little_bytes}
 use Rattle.byteorder.specs.Numbers.{length-bytes_low_first, little_from-append, little_from-lt, little_from-take}
 use Rattle.pldm_wire.proofs.WrittenNumbers.{stands}
 use Rattle.pldm_update.specs.DataParts.{Part, Byte, Number, Bytes, Sized, part_bytes, parts_bytes, IsPart, PartIn, PartsIn}
-use Rattle.pldm_update.specs.PackageFields.{Field, byte_at, number_at, list_at, many_at}
+use Rattle.pldm_update.specs.PackageFields.{and_then, Field, byte_at, number_at, list_at, many_at}
 use Rattle.pldm_update.specs.Packages.{Each}
+use Rattle.pldm_update.specs.declared.package_fault.PackageFault.{PackageFault}
 use Rattle.pldm_update.proofs.PackageSteps.{IsBytes, stepped, goes_on, went_by, goes_by, ok_is, written_again}
 
 -- parts that were taken from the front of bytes
@@ -119,6 +120,21 @@ sized_reads n text ps bytes rest t =
     let s = t.stand in
     let count : length text ≡ n = ap length (sym s.2.0) ∙ s.2.1 in
     list_reads n text ps bytes rest count (record { here = t.here; stand = (s.0, s.1, s.2.0, s.3, s.4); split = t.split })
+
+-- a field that is read, and what is read after it
+
+pub then_reads : {A B : Type 0} {read : Field A} {a : A} {b : B} {ps qs : List Part} {rest : List ℕ} (f : A × List ℕ → Field B) → Reads read a ps rest
+    → ((next : List ℕ) → Took ps next rest → Reads (f (a, next)) b qs rest) → Reads (and_then read f) b qs rest
+then_reads f r after =
+    let others = after r.next r.left in
+    record { next = others.next; is = goes_on f r.is others.is; left = others.left }
+
+pub all_read : {A : Type 0} {a : A} {ps : List Part} {rest next : List ℕ} → Took ps next rest → Reads (Ok (a, next)) a ps rest
+all_read {next = next} t = record { next = next; is = refl; left = t }
+
+pub then_is : {A B : Type 0} {read : Field A} {a : A} {b : Result B PackageFault} {ps : List Part} {rest : List ℕ} (f : A × List ℕ → Result B PackageFault) → Reads read a ps rest
+    → ((next : List ℕ) → Took ps next rest → f (a, next) ≡ b) → and_then read f ≡ b
+then_is f r after = goes_on f r.is (after r.next r.left)
 
 abbrev pub ItemReads : {A : Type 0} → (List ℕ → Field A) → (A → List Part) → Type 0
 ItemReads {A = A} item_at parts = (a : A) (ps : List Part) (bytes rest : List ℕ) → Took (parts a ++ ps) bytes rest → Reads (item_at bytes) a ps rest
