@@ -19,3 +19,4 @@ mod IdentifiersRead
 mod IdentifiersKept
 mod ParametersRead
 mod ParametersKept
+mod RecordsApply
