@@ -18,8 +18,10 @@ use pldm_wire::Code;
 /// The answer to the command of this number that this completion code and the data after it are: another code than
 /// SUCCESS is a refusal, whatever follows it; else OtherCommand for a number whose answer isn't read here; else, by the
 /// first field that fails, Length for one that is cut short or for bytes that are left after the last, and Value for a
-/// state that there is not and where a device has no descriptor (DSP0267; the order is this profile's own). A piece of an image has the rest of the data,
-/// [`MAX_PIECE_BYTES`](crate::MAX_PIECE_BYTES) at most.
+/// state that there is not and for a device without a descriptor (DSP0267; the order is this profile's own). A piece of
+/// an image has the rest of the data, [`MAX_PIECE_BYTES`](crate::MAX_PIECE_BYTES) at most. What a device says of itself
+/// has [`MAX_UPDATE_DATA`](crate::MAX_UPDATE_DATA) bytes at most, and its descriptors are as long as is stated; else the
+/// fault is Length.
 pub fn read_update_answer(command: u8, code: u8, data: &[u8]) -> Result<UpdateAnswer, UpdateFault>
     ensures exact { result ≡ update_answer_of command code data.now }
     ensures found { IfOk result (λ a. UpdateAnswerFields a command code data.now) }

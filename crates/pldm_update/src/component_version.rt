@@ -22,7 +22,11 @@ impl<'a> Model for ComponentVersion<'a> {
 
     ghost Value = { ComponentVersion };
 
-    ghost view = { λ v. record { comparison_stamp = v.comparison_stamp; version = v.version; release = v.release.now } };
+    ghost view = { λ v. record {
+      comparison_stamp = v.comparison_stamp;
+      version = v.version;
+      release = v.release.now;
+    } };
 }
 
 impl<'a> ComponentVersion<'a> {

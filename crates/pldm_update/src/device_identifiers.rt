@@ -13,9 +13,9 @@ use crate::package_fields::{byte_in, u32_in};
 use crate::{Descriptor, Descriptors, MAX_UPDATE_DATA, PackageFault, UpdateData, UpdateFault};
 use std::marker::Model;
 
-/// The descriptors that identify a firmware device, the initial one first: one at least, and as many as one answer holds,
-/// which is [`MAX_UPDATE_DATA`] bytes, 5 of them before the first, and 4 more than its bytes for each (DSP0267,
-/// "QueryDeviceIdentifiers command").
+/// The descriptors that identify a firmware device, the initial one first: one at least, and as many as one answer
+/// holds, which is [`MAX_UPDATE_DATA`] bytes, 5 of them before the first, and 4 more than its bytes for each
+/// (DSP0267, "QueryDeviceIdentifiers command").
 #[derive(Debug, PartialEq, Eq, Drop)]
 pub struct DeviceIdentifiers {
     bytes: UpdateData,
@@ -40,8 +40,8 @@ impl Model for DeviceIdentifiers {
 }
 
 impl DeviceIdentifiers {
-    /// The initial descriptor alone: its type (0 PCI vendor, 1 IANA enterprise, 2 UUID, for example; any number is taken)
-    /// and its bytes. `None` where these don't fit one answer.
+    /// The initial descriptor alone: its type (0 PCI vendor, 1 IANA enterprise, 2 UUID, for example; any number is
+    /// taken) and its bytes. `None` where these don't fit one answer.
     pub fn new(kind: u16, content: &[u8]) -> Option<DeviceIdentifiers>
         ensures some { IsSome result ↔ IsIdentifiers (descriptor kind content.now ∷ []) }
         ensures value { IfSome result (λ made. made ≡ descriptor kind content.now ∷ []) }
@@ -115,8 +115,8 @@ impl DeviceIdentifiers {
         }
     }
 
-    /// The data of an answer with them: the descriptors' length, how many there are, and they, numbers with their lowest
-    /// byte first.
+    /// The data of an answer with them: the descriptors' length, how many there are, and they, numbers with their
+    /// lowest byte first.
     pub fn as_slice(&self) -> &[u8]
         ensures bytes { result.now ≡ identifiers_bytes self.now }
         ensures range { IsIdentifiers self.now }

@@ -5,8 +5,8 @@ ghost use Rattle.pldm_update.specs.DeviceIdentity.{identity_answer};
 
 use crate::{DeviceIdentifiers, FirmwareParameters, UpdateAnswer, UpdateCommand};
 
-/// What a firmware device says of itself: what identifies it, and the firmware that it has. Whoever holds it changes the
-/// parameters where an update changes the firmware.
+/// What a firmware device says of itself: what identifies it, and the firmware that it has. Whoever holds it changes
+/// the parameters where an update changes the firmware.
 #[derive(Debug, PartialEq, Eq, Drop)]
 pub struct FirmwareIdentity {
     /// What identifies the device.

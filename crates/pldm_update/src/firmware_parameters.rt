@@ -19,8 +19,8 @@ use byteorder::{ByteOrder, LittleEndian};
 use std::marker::Model;
 
 /// The firmware that a device has: its set of components, and as many of these as one answer holds, which is
-/// [`MAX_UPDATE_DATA`] bytes: 10 and the two strings of the set, and 39 and the two strings for each component (DSP0267,
-/// "GetFirmwareParameters command").
+/// [`MAX_UPDATE_DATA`] bytes: 10 and the two strings of the set, and 39 and the two strings for each component
+/// (DSP0267, "GetFirmwareParameters command").
 #[derive(Debug, PartialEq, Eq, Drop)]
 pub struct FirmwareParameters {
     bytes: UpdateData,
@@ -82,9 +82,9 @@ impl FirmwareParameters {
         })
     }
 
-    /// The parameters that this data of an answer is, or the first fault: Length for a field that is cut short, for bytes
-    /// that are left after the last, and for more than [`MAX_UPDATE_DATA`] (DSP0267, "GetFirmwareParameters command"; the
-    /// order is this profile's own).
+    /// The parameters that this data of an answer is, or the first fault: Length for a field that is cut short, for
+    /// bytes that are left after the last, and for more than [`MAX_UPDATE_DATA`] (DSP0267, "GetFirmwareParameters
+    /// command"; the order is this profile's own).
     pub(crate) fn read(bytes: &[u8]) -> Result<FirmwareParameters, UpdateFault>
         ensures { result ≡ or_field_fault (parameters_at bytes.now) }
     {

@@ -64,8 +64,8 @@ impl<'a> DeviceRecord<'a> {
         self.descriptors.again()
     }
 
-    /// Whether the record is for a device with these identifiers: each of its descriptors is among them, the same type and
-    /// the same bytes (DSP0267, "Firmware device identification records").
+    /// Whether the record is for a device with these identifiers: each of its descriptors is among them, the same
+    /// type and the same bytes (DSP0267, "Firmware device identification records").
     pub fn applies_to(&self, identifiers: &DeviceIdentifiers) -> bool
         ensures { result ≡ applies_to identifiers.now self.now }
     {
