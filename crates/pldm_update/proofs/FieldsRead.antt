@@ -11,12 +11,14 @@ use Rattle.pldm_wire.proofs.WrittenNumbers.{stands}
 use Rattle.pldm_update.specs.TableParts.{part_number, part_of}
 use Rattle.pldm_update.specs.UpdateStates.{state_number, state_of}
 use Rattle.pldm_update.specs.VersionTexts.{version_text}
-use Rattle.pldm_update.specs.Layouts.{Shape, Byte, Number, Part, State, Text, Layout, End, Rest, Then, Value, Values, InRange, AllInRange, StandsIn, StandIn, field_bytes, bytes_of}
+use Rattle.pldm_update.specs.Layouts.{Shape, Byte, Number, Part, State, Text, Layout, End, Rest, Identifiers, Parameters, Then, Value, Values, InRange, AllInRange, StandsIn, StandIn, field_bytes, bytes_of}
 use Rattle.pldm_update.specs.FieldReading.{and_then, map_ok, some_or_wrong, byte_at, number_at, part_at, state_at, text_at, rest_at, end_at, field_at, after, values_at}
 use Rattle.pldm_update.specs.declared.table_part.TablePart.{TablePart}
 use Rattle.pldm_update.specs.declared.update_state.UpdateState.{UpdateState}
 use Rattle.pldm_update.specs.declared.fault.UpdateFault.{UpdateFault}
 use Rattle.pldm_update.specs.declared.fault.UpdateFault.TheVariants.{Length}
+use Rattle.pldm_update.proofs.IdentifiersRead.{identifiers_only, identifiers_found, identifiers_written}
+use Rattle.pldm_update.proofs.ParametersRead.{parameters_only, parameters_found, parameters_written}
 use Rattle.pldm_update.proofs.FieldNumbers.{part_of-part_number, number_from_part, state_of-state_number, number_from_state}
 
 -- what stands after these bytes at a place
@@ -93,6 +95,8 @@ values_read End v place rest bytes within split h =
 values_read (Rest most) v place rest bytes within split h =
     let test : nat_lt most (length bytes - place) ≡ false = le-ltb most (length bytes - place) (omega (arith, length-drop place bytes, ap length (split ∙ h.0), h.1)) in
     rw (test, split ∙ h.0) refl
+values_read Identifiers v place rest bytes within split h = rw (split, identifiers_only rest v h) refl
+values_read Parameters v place rest bytes within split h = rw (split, parameters_only rest v h) refl
 values_read (Then shape layout) v place rest bytes within split h =
     let on = split_here place h.0 h.1 bytes within (split ∙ h.4) in
     let to = width shape v.0 h.0 place h.2 in
@@ -209,6 +213,8 @@ values_found End place bytes within =
 values_found (Rest most) place bytes within =
     by_test (λ (r : Result (List ℕ) UpdateFault). IfOk r (λ v. StandIn (Rest most) v (drop place bytes))) (nat_lt most (length bytes - place)) (Err Length) (Ok (drop place bytes)) (λ _. tt)
     (λ t. (refl, omega (arith, ltb-false most (length bytes - place) t, length-drop place bytes)))
+values_found Identifiers place bytes within = identifiers_found (drop place bytes)
+values_found Parameters place bytes within = parameters_found (drop place bytes)
 values_found (Then shape layout) place bytes within =
     next_found shape layout place bytes within (λ v on. values_found layout (after shape v place) bytes on) (field_at shape place bytes) (field_found shape place bytes within)
 
@@ -224,4 +230,6 @@ field_written Text v h = refl
 pub values_written : (layout : Layout) (v : Values layout) → AllInRange layout v → StandIn layout v (bytes_of layout v)
 values_written End v h = refl
 values_written (Rest most) v h = (refl, h)
+values_written Identifiers v h = identifiers_written v h
+values_written Parameters v h = parameters_written v h
 values_written (Then shape layout) v h = (field_bytes shape v.0, bytes_of layout v.1, field_written shape v.0 h.0, values_written layout v.1 h.1, refl)

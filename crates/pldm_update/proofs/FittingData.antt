@@ -25,6 +25,8 @@ command_fits CancelUpdate h = omega arith
 
 pub answer_fits : (a : UpdateAnswer) → IsUpdateAnswer a → length (answer_data a) ≤ MAX_UPDATE_DATA
 answer_fits (answered.Refused _) h = omega arith
+answer_fits (answered.QueryDeviceIdentifiers _) h = h.2
+answer_fits (answered.GetFirmwareParameters _) h = h.1
 answer_fits (answered.RequestUpdate _ _) h = omega arith
 answer_fits (answered.PassComponentTable _ _) h = omega arith
 answer_fits (answered.UpdateComponent _ _ _ _) h = omega arith

@@ -14,3 +14,9 @@ mod ManyFields
 mod PackageSteps
 mod PackageParts
 mod PackagesRead
+mod PartsRead
+mod IdentifiersRead
+mod IdentifiersKept
+mod ParametersRead
+mod ParametersKept
+mod RecordsApply

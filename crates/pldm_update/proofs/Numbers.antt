@@ -9,7 +9,7 @@ use Rattle.pldm_update.specs.declared.assigned.TheConstants.{UNABLE_TO_INITIATE_
 use Rattle.pldm_update.specs.declared.times.TheConstants.{MAX_ATTEMPTS, RETRY_TIME, IDLE_TIME, SILENCE}
 use Rattle.pldm_update.specs.declared.firmware_device.TheConstants.{PIECE_BYTES}
 use Rattle.pldm_update.specs.declared.receiving.TheConstants.{NO_PROGRESS}
-use Rattle.pldm_update.specs.declared.limits.TheConstants.{MAX_TEXT_BYTES}
+use Rattle.pldm_update.specs.declared.limits.TheConstants.{MAX_TEXT_BYTES, RELEASE_BYTES}
 use Rattle.pldm_update.specs.declared.limits.TheConstants.{MAX_PIECE_BYTES, MAX_UPDATE_DATA}
 
 -- numbers that are assigned
@@ -126,6 +126,9 @@ no_progress = refl
 
 max_text_bytes : MAX_TEXT_BYTES ≡ 255
 max_text_bytes = refl
+
+release_bytes : RELEASE_BYTES ≡ 8
+release_bytes = refl
 
 max_piece_bytes : MAX_PIECE_BYTES ≡ 315
 max_piece_bytes = refl

@@ -76,7 +76,7 @@ higher_bytes : (n i b y : ℕ) → b < 256 → bytes_low_first (suc i) n (b + 25
 higher_bytes zero i b y h = refl
 higher_bytes (suc n) i b y h = rw (higher_byte i b y h, higher_bytes n (suc i) b y h) refl
 
-written_again : (n : ℕ) (bytes : List ℕ) → IsBytes bytes → n ≤ length bytes → little_bytes n (little_number n bytes) ≡ take n bytes
+pub written_again : (n : ℕ) (bytes : List ℕ) → IsBytes bytes → n ≤ length bytes → little_bytes n (little_number n bytes) ≡ take n bytes
 written_again zero bytes small long = refl
 written_again (suc n) [] small long = absurd (omega arith)
 written_again (suc n) (b ∷ bytes) small long =

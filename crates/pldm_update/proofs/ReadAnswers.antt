@@ -5,12 +5,12 @@ use Rattle.std.proofs.lemmas.Bool.Decides.{nat_tests}
 use Rattle.pldm_wire.specs.declared.assigned.TheConstants.{SUCCESS}
 use Rattle.pldm_wire.proofs.Cells.{by_test}
 use Rattle.pldm_update.specs.Answers.{answer_fields_of, answer_data, code_of, IsUpdateAnswer, IsAnswerTo, HasAnswerFields, UpdateAnswerFields}
-use Rattle.pldm_update.specs.AnswerReading.{empty_answer, request_update_answer_row, pass_component_table_answer_row, update_component_answer_row, request_firmware_data_answer_row, activate_firmware_answer_row, get_status_answer_row, cancel_update_answer_row, update_success_of, update_answer_of}
+use Rattle.pldm_update.specs.AnswerReading.{empty_answer, query_device_identifiers_answer_row, get_firmware_parameters_answer_row, request_update_answer_row, pass_component_table_answer_row, update_component_answer_row, request_firmware_data_answer_row, activate_firmware_answer_row, get_status_answer_row, cancel_update_answer_row, update_success_of, update_answer_of}
 use Rattle.pldm_update.specs.Layouts.{Values, StandIn}
 use Rattle.pldm_update.specs.FieldReading.{Row, read_row}
-use Rattle.pldm_update.specs.declared.assigned.TheConstants.{REQUEST_UPDATE, PASS_COMPONENT_TABLE, UPDATE_COMPONENT, REQUEST_FIRMWARE_DATA, TRANSFER_COMPLETE, VERIFY_COMPLETE, APPLY_COMPLETE, ACTIVATE_FIRMWARE, GET_STATUS, CANCEL_UPDATE_COMPONENT, CANCEL_UPDATE}
+use Rattle.pldm_update.specs.declared.assigned.TheConstants.{QUERY_DEVICE_IDENTIFIERS, GET_FIRMWARE_PARAMETERS, REQUEST_UPDATE, PASS_COMPONENT_TABLE, UPDATE_COMPONENT, REQUEST_FIRMWARE_DATA, TRANSFER_COMPLETE, VERIFY_COMPLETE, APPLY_COMPLETE, ACTIVATE_FIRMWARE, GET_STATUS, CANCEL_UPDATE_COMPONENT, CANCEL_UPDATE}
 use Rattle.pldm_update.specs.declared.answer.UpdateAnswer.{UpdateAnswer}
-use Rattle.pldm_update.specs.declared.answer.UpdateAnswer.TheVariants.{Refused, RequestUpdate, PassComponentTable, UpdateComponent, RequestFirmwareData, TransferComplete, VerifyComplete, ApplyComplete, ActivateFirmware, GetStatus, CancelUpdateComponent, CancelUpdate}
+use Rattle.pldm_update.specs.declared.answer.UpdateAnswer.TheVariants.{Refused, QueryDeviceIdentifiers, GetFirmwareParameters, RequestUpdate, PassComponentTable, UpdateComponent, RequestFirmwareData, TransferComplete, VerifyComplete, ApplyComplete, ActivateFirmware, GetStatus, CancelUpdateComponent, CancelUpdate}
 use Rattle.pldm_update.specs.declared.fault.UpdateFault.{UpdateFault}
 use Rattle.pldm_update.proofs.FieldsRead.{values_written}
 use Rattle.pldm_update.proofs.RowsRead.{row_read, row_found}
@@ -30,7 +30,9 @@ row_or row_number number bytes r other made h =
 success_found : (number : ℕ) (bytes : List ℕ) → Sound number bytes (update_success_of number bytes)
 unfolding update_success_of
 success_found number bytes =
-    row_or REQUEST_UPDATE number bytes request_update_answer_row _ (λ v h. record { answers = refl; stand = (refl, h) })
+    row_or QUERY_DEVICE_IDENTIFIERS number bytes query_device_identifiers_answer_row _ (λ v h. record { answers = refl; stand = (refl, h) })
+    (row_or GET_FIRMWARE_PARAMETERS number bytes get_firmware_parameters_answer_row _ (λ v h. record { answers = refl; stand = (refl, h) })
+    (row_or REQUEST_UPDATE number bytes request_update_answer_row _ (λ v h. record { answers = refl; stand = (refl, h) })
     (row_or PASS_COMPONENT_TABLE number bytes pass_component_table_answer_row _ (λ v h. record { answers = refl; stand = (refl, h) })
     (row_or UPDATE_COMPONENT number bytes update_component_answer_row _ (λ v h. record { answers = refl; stand = (refl, h) })
     (row_or REQUEST_FIRMWARE_DATA number bytes request_firmware_data_answer_row _ (λ v h. record { answers = refl; stand = (refl, h) })
@@ -41,7 +43,7 @@ success_found number bytes =
     (row_or GET_STATUS number bytes get_status_answer_row _ (λ v h. record { answers = refl; stand = (refl, h) })
     (row_or CANCEL_UPDATE_COMPONENT number bytes (empty_answer CancelUpdateComponent) _ (λ v h. record { answers = refl; stand = (refl, h) })
     (row_or CANCEL_UPDATE number bytes cancel_update_answer_row _ (λ v h. record { answers = refl; stand = (refl, h) })
-    tt))))))))))
+    tt))))))))))))
 
 -- what reading finds has its fields in the code and the data
 pub found : (number code : ℕ) (bytes : List ℕ) → code < 256 → IfOk (update_answer_of number code bytes) (λ a. UpdateAnswerFields a number code bytes)
@@ -56,6 +58,8 @@ unfolding update_success_of
 only (Refused refusal) number code bytes h =
     let other : (refusal == SUCCESS) ≡ false = grind (arith, nat_tests, h.stand.1.0) in
     rw (h.stand.0, other) refl
+only (QueryDeviceIdentifiers a) number code bytes h = rw (h.stand.0, h.answers) (row_read query_device_identifiers_answer_row a bytes h.stand.1)
+only (GetFirmwareParameters a) number code bytes h = rw (h.stand.0, h.answers) (row_read get_firmware_parameters_answer_row a bytes h.stand.1)
 only (RequestUpdate a b) number code bytes h = rw (h.stand.0, h.answers) (row_read request_update_answer_row (a, (b, tt)) bytes h.stand.1)
 only (PassComponentTable a b) number code bytes h = rw (h.stand.0, h.answers) (row_read pass_component_table_answer_row (a, (b, tt)) bytes h.stand.1)
 only (UpdateComponent a b c d) number code bytes h = rw (h.stand.0, h.answers) (row_read update_component_answer_row (a, (b, (c, (d, tt)))) bytes h.stand.1)
@@ -71,6 +75,8 @@ only (CancelUpdate a b) number code bytes h = rw (h.stand.0, h.answers) (row_rea
 -- the code and the data that an answer is written with have its fields
 stand_written : (a : UpdateAnswer) → IsUpdateAnswer a → HasAnswerFields a (code_of a) (answer_data a)
 stand_written (Refused refusal) h = (refl, h)
+stand_written (QueryDeviceIdentifiers a) h = (refl, values_written (answer_fields_of (QueryDeviceIdentifiers a)).layout (answer_fields_of (QueryDeviceIdentifiers a)).values h)
+stand_written (GetFirmwareParameters a) h = (refl, values_written (answer_fields_of (GetFirmwareParameters a)).layout (answer_fields_of (GetFirmwareParameters a)).values h)
 stand_written (RequestUpdate a b) h = (refl, values_written (answer_fields_of (RequestUpdate a b)).layout (answer_fields_of (RequestUpdate a b)).values h)
 stand_written (PassComponentTable a b) h = (refl, values_written (answer_fields_of (PassComponentTable a b)).layout (answer_fields_of (PassComponentTable a b)).values h)
 stand_written (UpdateComponent a b c d) h = (refl, values_written (answer_fields_of (UpdateComponent a b c d)).layout (answer_fields_of (UpdateComponent a b c d)).values h)

@@ -2,17 +2,19 @@
 -- answer again.
 use Rattle.std.specs.Prelude.{ℕ, ◌==◌, List, Result, Ok, Err, if◌then◌else◌}
 use Rattle.pldm_wire.specs.declared.assigned.TheConstants.{SUCCESS}
-use Rattle.pldm_update.specs.Layouts.{End}
+use Rattle.pldm_update.specs.Layouts.{End, Identifiers, Parameters}
 use Rattle.pldm_update.specs.FieldReading.{Row, row, read_row}
 use Rattle.pldm_update.specs.Answers.{request_update_answer, pass_component_table_answer, update_component_answer}
 use Rattle.pldm_update.specs.Answers.{request_firmware_data_answer, activate_firmware_answer, get_status_answer}
 use Rattle.pldm_update.specs.Answers.{cancel_update_answer}
+use Rattle.pldm_update.specs.declared.assigned.TheConstants.{QUERY_DEVICE_IDENTIFIERS, GET_FIRMWARE_PARAMETERS}
 use Rattle.pldm_update.specs.declared.assigned.TheConstants.{REQUEST_UPDATE, PASS_COMPONENT_TABLE, UPDATE_COMPONENT}
 use Rattle.pldm_update.specs.declared.assigned.TheConstants.{REQUEST_FIRMWARE_DATA, TRANSFER_COMPLETE, VERIFY_COMPLETE}
 use Rattle.pldm_update.specs.declared.assigned.TheConstants.{APPLY_COMPLETE, ACTIVATE_FIRMWARE, GET_STATUS}
 use Rattle.pldm_update.specs.declared.assigned.TheConstants.{CANCEL_UPDATE_COMPONENT, CANCEL_UPDATE}
 use Rattle.pldm_update.specs.declared.answer.UpdateAnswer.{UpdateAnswer}
-use Rattle.pldm_update.specs.declared.answer.UpdateAnswer.TheVariants.{Refused, RequestUpdate, PassComponentTable}
+use Rattle.pldm_update.specs.declared.answer.UpdateAnswer.TheVariants.{Refused, QueryDeviceIdentifiers, GetFirmwareParameters}
+use Rattle.pldm_update.specs.declared.answer.UpdateAnswer.TheVariants.{RequestUpdate, PassComponentTable}
 use Rattle.pldm_update.specs.declared.answer.UpdateAnswer.TheVariants.{UpdateComponent, RequestFirmwareData}
 use Rattle.pldm_update.specs.declared.answer.UpdateAnswer.TheVariants.{TransferComplete, VerifyComplete, ApplyComplete}
 use Rattle.pldm_update.specs.declared.answer.UpdateAnswer.TheVariants.{ActivateFirmware, GetStatus}
@@ -23,6 +25,12 @@ use Rattle.pldm_update.specs.declared.fault.UpdateFault.TheVariants.{OtherComman
 -- an answer with no data
 abbrev pub empty_answer : UpdateAnswer → Row UpdateAnswer
 empty_answer answer = row End (λ _. answer)
+
+abbrev pub query_device_identifiers_answer_row : Row UpdateAnswer
+query_device_identifiers_answer_row = row Identifiers (λ descriptors. QueryDeviceIdentifiers descriptors)
+
+abbrev pub get_firmware_parameters_answer_row : Row UpdateAnswer
+get_firmware_parameters_answer_row = row Parameters (λ parameters. GetFirmwareParameters parameters)
 
 abbrev pub request_update_answer_row : Row UpdateAnswer
 request_update_answer_row = row request_update_answer (λ v. RequestUpdate v.0 v.1.0)
@@ -50,7 +58,9 @@ cancel_update_answer_row = row cancel_update_answer (λ v. CancelUpdate v.0 v.1.
 -- the answer of a success to the command of this number
 unfoldable pub update_success_of : ℕ → List ℕ → Result UpdateAnswer UpdateFault
 update_success_of number bytes =
-    if number == REQUEST_UPDATE then read_row request_update_answer_row bytes
+    if number == QUERY_DEVICE_IDENTIFIERS then read_row query_device_identifiers_answer_row bytes
+    else if number == GET_FIRMWARE_PARAMETERS then read_row get_firmware_parameters_answer_row bytes
+    else if number == REQUEST_UPDATE then read_row request_update_answer_row bytes
     else if number == PASS_COMPONENT_TABLE then read_row pass_component_table_answer_row bytes
     else if number == UPDATE_COMPONENT then read_row update_component_answer_row bytes
     else if number == REQUEST_FIRMWARE_DATA then read_row request_firmware_data_answer_row bytes

@@ -3,15 +3,18 @@
 use Rattle.std.specs.Prelude.{◌≡◌, ℕ, List, Option, Some, None, IfSome}
 use Rattle.pldm_wire.specs.Codes.{IsCode}
 use Rattle.pldm_wire.specs.declared.assigned.TheConstants.{SUCCESS}
-use Rattle.pldm_update.specs.Layouts.{Layout, End, Rest, Then, Byte, Number, State, bytes_of, AllInRange, StandIn}
+use Rattle.pldm_update.specs.Layouts.{Layout, End, Rest, Identifiers, Parameters, Then, Byte, Number, State}
+use Rattle.pldm_update.specs.Layouts.{bytes_of, AllInRange, StandIn}
 use Rattle.pldm_update.specs.Commands.{Fields, fields}
+use Rattle.pldm_update.specs.declared.assigned.TheConstants.{QUERY_DEVICE_IDENTIFIERS, GET_FIRMWARE_PARAMETERS}
 use Rattle.pldm_update.specs.declared.assigned.TheConstants.{REQUEST_UPDATE, PASS_COMPONENT_TABLE, UPDATE_COMPONENT}
 use Rattle.pldm_update.specs.declared.assigned.TheConstants.{REQUEST_FIRMWARE_DATA, TRANSFER_COMPLETE, VERIFY_COMPLETE}
 use Rattle.pldm_update.specs.declared.assigned.TheConstants.{APPLY_COMPLETE, ACTIVATE_FIRMWARE, GET_STATUS}
 use Rattle.pldm_update.specs.declared.assigned.TheConstants.{CANCEL_UPDATE_COMPONENT, CANCEL_UPDATE}
 use Rattle.pldm_update.specs.declared.limits.TheConstants.{MAX_PIECE_BYTES}
 use Rattle.pldm_update.specs.declared.answer.UpdateAnswer.{UpdateAnswer}
-use Rattle.pldm_update.specs.declared.answer.UpdateAnswer.TheVariants.{Refused, RequestUpdate, PassComponentTable}
+use Rattle.pldm_update.specs.declared.answer.UpdateAnswer.TheVariants.{Refused, QueryDeviceIdentifiers, GetFirmwareParameters}
+use Rattle.pldm_update.specs.declared.answer.UpdateAnswer.TheVariants.{RequestUpdate, PassComponentTable}
 use Rattle.pldm_update.specs.declared.answer.UpdateAnswer.TheVariants.{UpdateComponent, RequestFirmwareData}
 use Rattle.pldm_update.specs.declared.answer.UpdateAnswer.TheVariants.{TransferComplete, VerifyComplete, ApplyComplete}
 use Rattle.pldm_update.specs.declared.answer.UpdateAnswer.TheVariants.{ActivateFirmware, GetStatus}
@@ -20,6 +23,8 @@ use Rattle.pldm_update.specs.declared.answer.UpdateAnswer.TheVariants.{CancelUpd
 -- the one command that the answer is to; a refusal is to any
 abbrev pub answered_number : UpdateAnswer → Option ℕ
 answered_number (Refused _) = None
+answered_number (QueryDeviceIdentifiers _) = Some QUERY_DEVICE_IDENTIFIERS
+answered_number (GetFirmwareParameters _) = Some GET_FIRMWARE_PARAMETERS
 answered_number (RequestUpdate _ _) = Some REQUEST_UPDATE
 answered_number (PassComponentTable _ _) = Some PASS_COMPONENT_TABLE
 answered_number (UpdateComponent _ _ _ _) = Some UPDATE_COMPONENT
@@ -65,6 +70,8 @@ cancel_update_answer = Then Byte (Then (Number 8) End)
 -- an answer's fields after the completion code
 abbrev pub answer_fields_of : UpdateAnswer → Fields
 answer_fields_of (Refused code) = fields End tt
+answer_fields_of (QueryDeviceIdentifiers identifiers) = fields Identifiers identifiers
+answer_fields_of (GetFirmwareParameters parameters) = fields Parameters parameters
 answer_fields_of (RequestUpdate meta_data_bytes sends_package_data) =
     fields request_update_answer (meta_data_bytes, (sends_package_data, tt))
 answer_fields_of (PassComponentTable response response_code) =

@@ -2,10 +2,13 @@
 use Rattle.std.specs.Prelude.{ℕ, ◌+◌, ◌-◌, nat_lt, ◌==◌, List, length, slice_index, take, drop, Option, Some, None}
 use Rattle.std.specs.Prelude.{Result, Ok, Err, if◌then◌else◌}
 use Rattle.byteorder.specs.Endian.{little_from}
+use Rattle.pldm_update.specs.IdentifiersReading.{identifiers_at, or_field_fault}
+use Rattle.pldm_update.specs.ParametersReading.{parameters_at}
 use Rattle.pldm_update.specs.TableParts.{part_of}
 use Rattle.pldm_update.specs.UpdateStates.{state_of}
 use Rattle.pldm_update.specs.VersionTexts.{VersionText, version_text}
-use Rattle.pldm_update.specs.Layouts.{Shape, Byte, Number, Part, State, Text, Layout, End, Rest, Then, Value, Values}
+use Rattle.pldm_update.specs.Layouts.{Shape, Byte, Number, Part, State, Text, Layout, End, Rest, Identifiers, Parameters, Then}
+use Rattle.pldm_update.specs.Layouts.{Value, Values}
 use Rattle.pldm_update.specs.declared.table_part.TablePart.{TablePart}
 use Rattle.pldm_update.specs.declared.update_state.UpdateState.{UpdateState}
 use Rattle.pldm_update.specs.declared.fault.UpdateFault.{UpdateFault}
@@ -78,6 +81,8 @@ after Text version place = place + 2 + length version.text
 abbrev pub values_at : (layout : Layout) → ℕ → List ℕ → Result (Values layout) UpdateFault
 values_at End place bytes = end_at place bytes
 values_at (Rest most) place bytes = rest_at most place bytes
+values_at Identifiers place bytes = or_field_fault (identifiers_at (drop place bytes))
+values_at Parameters place bytes = or_field_fault (parameters_at (drop place bytes))
 values_at (Then shape layout) place bytes =
     and_then (field_at shape place bytes)
     (λ value. map_ok (λ values. (value, values)) (values_at layout (after shape value place) bytes))

@@ -2,6 +2,9 @@
 -- bytes that they are written as, and when they stand in given bytes.
 use Rattle.std.specs.Prelude.{◌≡◌, ℕ, ◌<◌, ◌≤◌, ◌^◌, List, [], ◌∷◌, ◌++◌, length}
 use Rattle.byteorder.specs.Endian.{little_number, little_bytes}
+use Rattle.pldm_update.specs.Identifiers.{identifiers_bytes, IsIdentifiers, IdentifiersIn}
+use Rattle.pldm_update.specs.Packages.{Descriptor}
+use Rattle.pldm_update.specs.Parameters.{FirmwareParameters, parameters_bytes, AreParameters, ParametersIn}
 use Rattle.pldm_update.specs.TableParts.{part_number}
 use Rattle.pldm_update.specs.UpdateStates.{state_number}
 use Rattle.pldm_update.specs.VersionTexts.{VersionText, IsVersionText}
@@ -21,10 +24,13 @@ pub data Shape : Type 0 where
   -- a version string: its type, its length, and as many bytes
   Text : Shape
 
--- fields one after another, and then nothing, or the rest of the data, of so many bytes at most
+-- fields one after another, and then nothing, or the rest of the data: of so many bytes at most, descriptors of a
+-- device, or its firmware parameters
 pub data Layout : Type 0 where
   End : Layout
   Rest : ℕ → Layout
+  Identifiers : Layout
+  Parameters : Layout
   Then : Shape → Layout → Layout
 
 -- the value of a field
@@ -39,6 +45,8 @@ Value Text = VersionText
 abbrev pub Values : Layout → Type 0
 Values End = Unit {0}
 Values (Rest most) = List ℕ
+Values Identifiers = List Descriptor
+Values Parameters = FirmwareParameters
 Values (Then shape layout) = Value shape × Values layout
 
 -- the bytes that a field is written as
@@ -53,6 +61,8 @@ field_bytes Text version = version.string_type ∷ length version.text ∷ versi
 abbrev pub bytes_of : (layout : Layout) → Values layout → List ℕ
 bytes_of End values = []
 bytes_of (Rest most) rest = rest
+bytes_of Identifiers descriptors = identifiers_bytes descriptors
+bytes_of Parameters parameters = parameters_bytes parameters
 bytes_of (Then shape layout) values = field_bytes shape values.0 ++ bytes_of layout values.1
 
 -- the range of a field
@@ -67,6 +77,8 @@ InRange Text version = IsVersionText version
 abbrev pub AllInRange : (layout : Layout) → Values layout → Type 0
 AllInRange End values = Unit {0}
 AllInRange (Rest most) rest = length rest ≤ most
+AllInRange Identifiers descriptors = IsIdentifiers descriptors
+AllInRange Parameters parameters = AreParameters parameters
 AllInRange (Then shape layout) values = InRange shape values.0 × AllInRange layout values.1
 
 -- the field stands in exactly these bytes
@@ -81,6 +93,8 @@ StandsIn Text version bytes = bytes ≡ version.string_type ∷ length version.t
 abbrev pub StandIn : (layout : Layout) → Values layout → List ℕ → Type 0
 StandIn End values bytes = bytes ≡ []
 StandIn (Rest most) rest bytes = (bytes ≡ rest) × (length rest ≤ most)
+StandIn Identifiers descriptors bytes = IdentifiersIn descriptors bytes
+StandIn Parameters parameters bytes = ParametersIn parameters bytes
 StandIn (Then shape layout) values bytes =
     (here : List ℕ) × (rest : List ℕ) × StandsIn shape values.0 here × StandIn layout values.1 rest
     × (bytes ≡ here ++ rest)

@@ -4,19 +4,28 @@ ghost use Rattle.std.specs.Prelude.{◌≡◌};
 ghost use Rattle.pldm_update.specs.Answers.{answered_number, code_of};
 
 use crate::assigned::{
-    ACTIVATE_FIRMWARE, APPLY_COMPLETE, CANCEL_UPDATE, CANCEL_UPDATE_COMPONENT, GET_STATUS,
-    PASS_COMPONENT_TABLE, REQUEST_FIRMWARE_DATA, REQUEST_UPDATE, TRANSFER_COMPLETE,
-    UPDATE_COMPONENT, VERIFY_COMPLETE,
+    ACTIVATE_FIRMWARE, APPLY_COMPLETE, CANCEL_UPDATE, CANCEL_UPDATE_COMPONENT,
+    GET_FIRMWARE_PARAMETERS, GET_STATUS, PASS_COMPONENT_TABLE, QUERY_DEVICE_IDENTIFIERS,
+    REQUEST_FIRMWARE_DATA, REQUEST_UPDATE, TRANSFER_COMPLETE, UPDATE_COMPONENT, VERIFY_COMPLETE,
 };
-use crate::{Piece, UpdateState};
+use crate::{DeviceIdentifiers, FirmwareParameters, Piece, UpdateState};
 use pldm_wire::{Code, SUCCESS};
 
-/// An answer to a command of firmware update with its fields, and the refusal of any (DSP0267). The answers to
-/// QueryDeviceIdentifiers and GetFirmwareParameters are not read or written here.
+/// An answer to a command of firmware update with its fields, and the refusal of any (DSP0267).
 #[derive(Debug, PartialEq, Eq, Drop)]
 pub enum UpdateAnswer {
     /// The command was refused: this completion code and no data.
     Refused(Code),
+    /// What identifies the device (DSP0267, "QueryDeviceIdentifiers command").
+    QueryDeviceIdentifiers {
+        /// Its descriptors.
+        identifiers: DeviceIdentifiers,
+    },
+    /// Which firmware the device has (DSP0267, "GetFirmwareParameters command").
+    GetFirmwareParameters {
+        /// Its set of components, and each of them.
+        parameters: FirmwareParameters,
+    },
     /// The update begins (DSP0267, "RequestUpdate command").
     RequestUpdate {
         /// The bytes of the meta data that the device has for the agent.
@@ -93,6 +102,8 @@ impl UpdateAnswer {
     {
         let number = match self {
             UpdateAnswer::Refused(_) => return None,
+            UpdateAnswer::QueryDeviceIdentifiers { .. } => QUERY_DEVICE_IDENTIFIERS,
+            UpdateAnswer::GetFirmwareParameters { .. } => GET_FIRMWARE_PARAMETERS,
             UpdateAnswer::RequestUpdate { .. } => REQUEST_UPDATE,
             UpdateAnswer::PassComponentTable { .. } => PASS_COMPONENT_TABLE,
             UpdateAnswer::UpdateComponent { .. } => UPDATE_COMPONENT,

@@ -1,25 +1,27 @@
 //! The answer in a completion code and data, or why they are none.
 
 ghost use Rattle.std.specs.Prelude.{◌≡◌, Ok, IfOk};
-ghost use Rattle.pldm_update.specs.AnswerReading.{activate_firmware_answer_row, cancel_update_answer_row, empty_answer, get_status_answer_row, pass_component_table_answer_row, request_firmware_data_answer_row, request_update_answer_row, update_answer_of, update_component_answer_row, update_success_of};
+ghost use Rattle.pldm_update.specs.AnswerReading.{activate_firmware_answer_row, cancel_update_answer_row, empty_answer, get_firmware_parameters_answer_row, get_status_answer_row, pass_component_table_answer_row, query_device_identifiers_answer_row, request_firmware_data_answer_row, request_update_answer_row, update_answer_of, update_component_answer_row, update_success_of};
 ghost use Rattle.pldm_update.specs.Answers.{UpdateAnswerFields};
 ghost use Rattle.pldm_update.specs.FieldReading.{read_row};
 ghost use Rattle.pldm_update.specs.declared.answer.UpdateAnswer.{UpdateAnswer as UpdateAnswerValue};
 
 use crate::assigned::{
-    ACTIVATE_FIRMWARE, APPLY_COMPLETE, CANCEL_UPDATE, CANCEL_UPDATE_COMPONENT, GET_STATUS,
-    PASS_COMPONENT_TABLE, REQUEST_FIRMWARE_DATA, REQUEST_UPDATE, TRANSFER_COMPLETE,
-    UPDATE_COMPONENT, VERIFY_COMPLETE,
+    ACTIVATE_FIRMWARE, APPLY_COMPLETE, CANCEL_UPDATE, CANCEL_UPDATE_COMPONENT,
+    GET_FIRMWARE_PARAMETERS, GET_STATUS, PASS_COMPONENT_TABLE, QUERY_DEVICE_IDENTIFIERS,
+    REQUEST_FIRMWARE_DATA, REQUEST_UPDATE, TRANSFER_COMPLETE, UPDATE_COMPONENT, VERIFY_COMPLETE,
 };
 use crate::places::{end_at, piece_at, state_at, u8_at, u16_at, u32_at, u64_at};
-use crate::{UpdateAnswer, UpdateFault};
+use crate::{DeviceIdentifiers, FirmwareParameters, UpdateAnswer, UpdateFault};
 use pldm_wire::Code;
 
 /// The answer to the command of this number that this completion code and the data after it are: another code than
 /// SUCCESS is a refusal, whatever follows it; else OtherCommand for a number whose answer isn't read here; else, by the
 /// first field that fails, Length for one that is cut short or for bytes that are left after the last, and Value for a
-/// state that there is not (DSP0267; the order is this profile's own). A piece of an image has the rest of the data,
-/// [`MAX_PIECE_BYTES`](crate::MAX_PIECE_BYTES) at most.
+/// state that there is not and for a device without a descriptor (DSP0267; the order is this profile's own). A piece of
+/// an image has the rest of the data, [`MAX_PIECE_BYTES`](crate::MAX_PIECE_BYTES) at most. What a device says of itself
+/// has [`MAX_UPDATE_DATA`](crate::MAX_UPDATE_DATA) bytes at most, and its descriptors are as long as is stated; else the
+/// fault is Length.
 pub fn read_update_answer(command: u8, code: u8, data: &[u8]) -> Result<UpdateAnswer, UpdateFault>
     ensures exact { result ≡ update_answer_of command code data.now }
     ensures found { IfOk result (λ a. UpdateAnswerFields a command code data.now) }
@@ -44,6 +46,8 @@ fn success_in(command: u8, bytes: &[u8]) -> Result<UpdateAnswer, UpdateFault>
     ensures { result ≡ update_success_of command bytes.now }
 {
     match command {
+        QUERY_DEVICE_IDENTIFIERS => identifiers_answer_in(bytes),
+        GET_FIRMWARE_PARAMETERS => parameters_answer_in(bytes),
         REQUEST_UPDATE => request_update_answer_in(bytes),
         PASS_COMPONENT_TABLE => pass_component_table_answer_in(bytes),
         UPDATE_COMPONENT => update_component_answer_in(bytes),
@@ -65,6 +69,22 @@ fn empty_answer_in(answer: UpdateAnswer, bytes: &[u8]) -> Result<UpdateAnswer, U
 {
     end_at(bytes, 0)?;
     Ok(answer)
+}
+
+/// QueryDeviceIdentifiers' answer: the device's descriptors.
+fn identifiers_answer_in(bytes: &[u8]) -> Result<UpdateAnswer, UpdateFault>
+    ensures { result ≡ read_row query_device_identifiers_answer_row bytes.now }
+{
+    let identifiers = DeviceIdentifiers::read(bytes)?;
+    Ok(UpdateAnswer::QueryDeviceIdentifiers { identifiers })
+}
+
+/// GetFirmwareParameters' answer: the firmware that the device has.
+fn parameters_answer_in(bytes: &[u8]) -> Result<UpdateAnswer, UpdateFault>
+    ensures { result ≡ read_row get_firmware_parameters_answer_row bytes.now }
+{
+    let parameters = FirmwareParameters::read(bytes)?;
+    Ok(UpdateAnswer::GetFirmwareParameters { parameters })
 }
 
 /// RequestUpdate's answer: meta data length, whether GetPackageData will be sent.

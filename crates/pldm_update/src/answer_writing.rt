@@ -32,6 +32,12 @@ fn spelled(answer: &UpdateAnswer) -> UpdateData
         | UpdateAnswer::VerifyComplete
         | UpdateAnswer::ApplyComplete
         | UpdateAnswer::CancelUpdateComponent => UpdateData::new(),
+        UpdateAnswer::QueryDeviceIdentifiers { identifiers } => {
+            data_of(&[Field::Bytes(identifiers.as_slice())])
+        }
+        UpdateAnswer::GetFirmwareParameters { parameters } => {
+            data_of(&[Field::Bytes(parameters.as_slice())])
+        }
         UpdateAnswer::RequestUpdate {
             meta_data_bytes,
             sends_package_data,

@@ -3,7 +3,7 @@
 ghost use Rattle.pldm_update.specs.Laws.{AnswerReadBack, CommandReadBack, DataFits, OneAnswer, OneCommand, ValuesFound, ValuesReadBack, ValuesWritten, WrittenAnswerReadBack, WrittenCommandReadBack};
 ghost use Rattle.pldm_update.specs.DeviceLaws.{FlashIsInOrder, ImageIsTheOffered, OneAgentAtATime, PiecesAreOwn, VerifiedIsWhole};
 ghost use Rattle.pldm_update.specs.AgentLaws.{ActivatesWhatWasApplied};
-ghost use Rattle.pldm_update.specs.PackageLaws.{OnePackage, PackageReadBack};
+ghost use Rattle.pldm_update.specs.PackageLaws.{OnePackage, PackageReadBack, RecordsApply};
 
 /// Of every layout: the values that stand in data are read from it, what is read from data stands in it, and what
 /// values are written as has them in it. So what is written is read back, and no data has two lists of values.
@@ -80,4 +80,9 @@ pub fn activates_what_was_applied()
 pub fn packages_are_read_back()
     ensures reads_back { PackageReadBack }
     ensures one { OnePackage }
+{}
+
+/// A record of a package is for a device exactly where each of its descriptors is one of the device's.
+pub fn records_apply()
+    ensures { RecordsApply }
 {}

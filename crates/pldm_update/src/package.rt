@@ -1,6 +1,8 @@
 //! A firmware update package.
 
 ghost use Rattle.std.specs.Prelude.{◌≡◌, ◌≤◌, ◌+◌, ◌↔◌, length, Ok, IfOk, IfSome, IsSome};
+ghost use Rattle.std.specs.List.{find};
+ghost use Rattle.pldm_update.specs.Applying.{applies_to};
 ghost use Rattle.pldm_update.specs.PackageFields.{Gives};
 ghost use Rattle.pldm_update.specs.PackageReading.{package_fields_at, package_of, size_at};
 ghost use Rattle.pldm_update.specs.Packages.{HasPackage, Package as PackageValue, image_in};
@@ -9,7 +11,10 @@ use crate::package_device::devices_in;
 use crate::package_fields::{byte_in, slice_in, u16_in, u32_in};
 use crate::package_image::images_in;
 use crate::package_text::text_in;
-use crate::{DeviceRecords, ImageRecord, ImageRecords, PackageFault, PackageText};
+use crate::{
+    DeviceIdentifiers, DeviceRecord, DeviceRecords, ImageRecord, ImageRecords, PackageFault,
+    PackageText,
+};
 use pldm_wire::crc32;
 use std::marker::Model;
 
@@ -77,6 +82,19 @@ impl<'a> Package<'a> {
         ensures { result ≡ self.now.devices }
     {
         self.devices.again()
+    }
+
+    /// The first record that is for a device with these identifiers; `None` where none is. Which images are for it, its
+    /// `applicable` says (DSP0267, "Firmware device identification records").
+    pub fn record_for(&self, identifiers: &DeviceIdentifiers) -> Option<DeviceRecord<'a>>
+        ensures { result ≡ find (applies_to identifiers.now) self.now.devices }
+    {
+        for device in self.devices() {
+            if device.applies_to(identifiers) {
+                return Some(device);
+            }
+        }
+        None
     }
 
     /// What it says of its images.

@@ -1,7 +1,8 @@
-//! The descriptors of a device in a package.
+//! The descriptors of a device, of a package or of an answer.
 
 ghost use Rattle.std.specs.Prelude.{◌≡◌, ◌∷◌, [], IfNone, IfSome};
 ghost use Rattle.std.specs.Iterator.{YieldsFirst, item_count};
+ghost use Rattle.pldm_update.specs.Applying.{is_same};
 ghost use Rattle.pldm_update.specs.PackageFields.{Gives, many_at};
 ghost use Rattle.pldm_update.specs.PackageReading.{descriptor_at};
 
@@ -9,7 +10,7 @@ use crate::PackageFault;
 use crate::package_fields::{slice_in, u16_in};
 use std::marker::Model;
 
-/// A descriptor of a device in a package, borrowed (DSP0267, "Descriptor definition").
+/// A descriptor of a device, borrowed (DSP0267, "Descriptor definition").
 #[derive(Debug, Drop)]
 pub struct Descriptor<'a> {
     kind: u16,
@@ -37,6 +38,13 @@ impl<'a> Descriptor<'a> {
         ensures { result.now ≡ self.now.content }
     {
         self.content
+    }
+
+    /// Whether another one has the same type and the same bytes.
+    pub(crate) fn is_same(&self, other: &Descriptor<'_>) -> bool
+        ensures { result ≡ is_same self.now other.now }
+    {
+        self.kind == other.kind && self.content == other.content
     }
 }
 

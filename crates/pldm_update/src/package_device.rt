@@ -2,12 +2,13 @@
 
 ghost use Rattle.std.specs.Prelude.{◌≡◌, ◌∷◌, [], IfNone, IfSome};
 ghost use Rattle.std.specs.Iterator.{YieldsFirst, item_count};
+ghost use Rattle.pldm_update.specs.Applying.{applies_to};
 ghost use Rattle.pldm_update.specs.PackageFields.{Gives, many_at};
 ghost use Rattle.pldm_update.specs.PackageReading.{device_at};
 
 use crate::package_descriptor::descriptors_in;
 use crate::package_fields::{byte_in, slice_in, u16_in, u32_in};
-use crate::{Descriptors, PackageFault, PackageText};
+use crate::{Descriptors, DeviceIdentifiers, PackageFault, PackageText};
 use std::marker::Model;
 
 /// A record of devices that a package is for, borrowed (DSP0267, "Firmware device ID records").
@@ -61,6 +62,19 @@ impl<'a> DeviceRecord<'a> {
         ensures { result ≡ self.now.descriptors }
     {
         self.descriptors.again()
+    }
+
+    /// Whether the record is for a device with these identifiers: each of its descriptors is among them, the same
+    /// type and the same bytes (DSP0267, "Firmware device identification records").
+    pub fn applies_to(&self, identifiers: &DeviceIdentifiers) -> bool
+        ensures { result ≡ applies_to identifiers.now self.now }
+    {
+        for descriptor in self.descriptors() {
+            if !identifiers.has(&descriptor) {
+                return false;
+            }
+        }
+        true
     }
 
     /// The package data for the device.

@@ -1,4 +1,4 @@
-//! A version string in a package.
+//! A version string, borrowed.
 
 ghost use Rattle.std.specs.Prelude.{◌≡◌};
 ghost use Rattle.pldm_update.specs.PackageFields.{Gives};
@@ -9,7 +9,7 @@ use crate::PackageFault;
 use crate::package_fields::{byte_in, slice_in};
 use std::marker::Model;
 
-/// A version string of a package, borrowed (DSP0267, "String types").
+/// A version string of a package, or of the firmware that a device has, borrowed (DSP0267, "String types").
 #[derive(Debug, Drop)]
 pub struct PackageText<'a> {
     string_type: u8,
@@ -26,7 +26,7 @@ impl<'a> Model for PackageText<'a> {
 
 impl<'a> PackageText<'a> {
     /// The string of this type with these bytes.
-    pub(crate) fn of(string_type: u8, text: &'a [u8]) -> PackageText<'a>
+    pub fn of(string_type: u8, text: &'a [u8]) -> PackageText<'a>
         ensures { result ≡ version_text string_type text.now }
     {
         PackageText { string_type, text }

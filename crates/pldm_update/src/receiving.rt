@@ -18,9 +18,9 @@ pub struct Received {
 }
 
 impl FirmwareDevice {
-    /// Takes a command of this sender. `room` is the most bytes that an image of the component of an UpdateComponent may
-    /// have, `None` where the device has no such component. `None` for QueryDeviceIdentifiers and GetFirmwareParameters,
-    /// which the firmware answers: they change nothing.
+    /// Takes a command of this sender. `room` is the most bytes that an image of the component of an UpdateComponent
+    /// may have, `None` where the device has no such component. `None` for QueryDeviceIdentifiers and
+    /// GetFirmwareParameters, which [`FirmwareIdentity`](crate::FirmwareIdentity) answers: they change nothing.
     ///
     /// A command that is refused is answered by its completion code and changes nothing (see [`request_update`] and the
     /// other calls); so is one that a firmware device sends and never gets, by ERROR_UNSUPPORTED_PLDM_CMD.

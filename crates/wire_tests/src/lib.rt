@@ -24,4 +24,8 @@ mod records;
 #[cfg(test)]
 mod smbus;
 #[cfg(test)]
+mod update_identifiers;
+#[cfg(test)]
 mod update_package;
+#[cfg(test)]
+mod update_parameters;

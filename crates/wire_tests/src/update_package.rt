@@ -5,7 +5,7 @@ use pldm_update::{Package, PackageFault};
 use std::process::Abort;
 
 /// A header of 101 bytes, and an image of four.
-const PACKAGE: [u8; 105] = *b"\
+pub const PACKAGE: [u8; 105] = *b"\
     \xF0\x18\x87\x8C\xCB\x7D\x49\x43\x98\x00\xA0\x2F\x05\x9A\xCA\x02\
     \x01\x65\x00\
     \x01\x02\x03\x04\x05\x06\x07\x08\x09\x0A\x0B\x0C\x0D\

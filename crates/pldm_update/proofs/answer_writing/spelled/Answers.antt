@@ -2,8 +2,16 @@
 use Rattle.std.proofs.Common.{arith, append-nil}
 use Rattle.pldm_update.proofs.answer_writing.spelled.Goals as goal
 
+pub returns-in-QueryDeviceIdentifiers-clause-items : goal.returns-in-QueryDeviceIdentifiers-clause-items
+returns-in-QueryDeviceIdentifiers-clause-items c =
+    rw c.in-QueryDeviceIdentifiers.is (rw (c.as_slice.ensures.bytes, append-nil) at c.data_of.ensures)
+
+pub returns-in-GetFirmwareParameters-clause-items : goal.returns-in-GetFirmwareParameters-clause-items
+returns-in-GetFirmwareParameters-clause-items c =
+    rw c.in-GetFirmwareParameters.is (rw (c.as_slice-in-GetFirmwareParameters.ensures.bytes, append-nil) at c.data_of-in-GetFirmwareParameters.ensures)
+
 pub returns-in-RequestUpdate-clause-items : goal.returns-in-RequestUpdate-clause-items
-returns-in-RequestUpdate-clause-items c = rw c.in-RequestUpdate.is c.data_of.ensures
+returns-in-RequestUpdate-clause-items c = rw c.in-RequestUpdate.is c.data_of-in-RequestUpdate.ensures
 
 pub returns-in-RequestUpdate-clause-range : goal.returns-in-RequestUpdate-clause-range
 returns-in-RequestUpdate-clause-range c = rw c.in-RequestUpdate.is (omega arith, (omega arith, tt))
@@ -34,7 +42,7 @@ returns-in-CancelUpdate-clause-range c = rw c.in-CancelUpdate.is (omega arith, (
 
 pub returns-in-RequestFirmwareData-clause-items : goal.returns-in-RequestFirmwareData-clause-items
 returns-in-RequestFirmwareData-clause-items c =
-    rw c.in-RequestFirmwareData.is (rw (c.as_slice.ensures.value, append-nil) at c.data_of-in-RequestFirmwareData.ensures)
+    rw c.in-RequestFirmwareData.is (rw (c.as_slice-in-RequestFirmwareData.ensures.value, append-nil) at c.data_of-in-RequestFirmwareData.ensures)
 
 pub returns-in-GetStatus-clause-items : goal.returns-in-GetStatus-clause-items
 returns-in-GetStatus-clause-items c =
