@@ -6,8 +6,10 @@ use Rattle.mctp_packet.specs.declared.TheConstants.{NULL_EID}
 use Rattle.pldm_requester.specs.Asks.{Ask, ask_of}
 use Rattle.pldm_requester.specs.Deadlines.{IsDeadline}
 use Rattle.pldm_requester.specs.Slots.{RequesterView, coded_view, held_of}
-use Rattle.pldm_requester.specs.Steps.{IsHeld, accepts, again_at, begins_message, given_up_at, got_at, held_at_first, opened_with, opening_answer, passed, received_held, ticked_held}
-use Rattle.pldm_requester.specs.Timings.{coded_timing, timing_fault}
+use Rattle.pldm_requester.specs.Steps.{IsHeld, accepts, again_at, begins_message, given_up_at, got_at, opened_with, paced_at_first, opening_answer, passed, received_held, ticked_held}
+use Rattle.pldm_requester.specs.Pacing.{coded_pace, setting_fault}
+use Rattle.pldm_requester.specs.Timings.{coded_timing}
+use Rattle.pldm_requester.specs.declared.pace.Pace.{Pace}
 use Rattle.pldm_requester.specs.declared.results.Got.{Got}
 use Rattle.pldm_requester.specs.declared.results.Got.TheVariants.{Partial}
 use Rattle.pldm_requester.specs.declared.requester.TheConstants.{MAX_REMEMBERED}
@@ -19,33 +21,35 @@ use Rattle.pldm_wire.specs.declared.command.Command.{Command}
 use Rattle.pldm_terminus.specs.declared.asking.AskFault.{AskFault}
 use Rattle.pldm_terminus.specs.declared.asking.AskFault.TheVariants.{NoEid, Resting, Open}
 
--- the peer, the requester's timing, the requester, and the moment before which it opens nothing
+-- the peer, the requester's timing and pace, the requester, and the moment before which it opens nothing
 pub record AskingView : Type 0 where
   pub peer : ℕ
   pub timing : Timing
+  pub pace : Pace
   pub requester : Option RequesterView
   pub rest : ℕ
 
 -- it is stored as its parts
 abbrev pub coded_asking : Coded AskingView
 coded_asking =
-    code_by (ℕ × (Timing × (Option RequesterView × ℕ)))
-    (coded× coded_ℕ (coded× coded_timing (coded× (coded_option coded_view) coded_ℕ)))
-    (λ a. (a.peer, (a.timing, (a.requester, a.rest))))
-    (λ c. record { peer = c.0; timing = c.1.0; requester = c.1.1.0; rest = c.1.1.1 })
+    code_by (ℕ × (Timing × (Pace × (Option RequesterView × ℕ))))
+    (coded× coded_ℕ (coded× coded_timing (coded× coded_pace (coded× (coded_option coded_view) coded_ℕ))))
+    (λ a. (a.peer, (a.timing, (a.pace, (a.requester, a.rest)))))
+    (λ c. record { peer = c.0; timing = c.1.0; pace = c.1.1.0; requester = c.1.1.1.0; rest = c.1.1.1.1 })
     (λ _. refl)
 
--- a requester begins at this endpoint ID; there is none where that is null, or has a fault with this timing
-abbrev pub IsBegunAt : ℕ → ℕ → Timing → Option RequesterView → Type 0
-IsBegunAt own peer timing None = (own ≡ NULL_EID) ⊎ IsSome (timing_fault own peer timing)
-IsBegunAt own peer timing (Some r) = IsHeld (held_of r) (held_at_first own peer timing)
+-- a requester begins at this endpoint ID; there is none where that is null, or has a fault with these settings
+abbrev pub IsBegunAt : ℕ → ℕ → Timing → Pace → Option RequesterView → Type 0
+IsBegunAt own peer timing pace None = (own ≡ NULL_EID) ⊎ IsSome (setting_fault own peer timing pace)
+IsBegunAt own peer timing pace (Some r) = IsHeld (held_of r) (paced_at_first own peer timing pace)
 
 -- it begins at this moment, and opens nothing before twice the keeping time has passed
 pub record HasBegun (own now : ℕ) (old new : AskingView) : Type 0 where
-  pub requester : IsBegunAt own old.peer old.timing new.requester
+  pub requester : IsBegunAt own old.peer old.timing old.pace new.requester
   pub rest : new.rest ≡ now + 2 * old.timing.keep
   pub peer : new.peer ≡ old.peer
   pub timing : new.timing ≡ old.timing
+  pub pace : new.pace ≡ old.pace
 
 -- the last moment of the requester is not after this one
 abbrev pub CameBefore : Option RequesterView → ℕ → Type 0
@@ -55,6 +59,7 @@ CameBefore requester now = IfSome requester (λ r. (held_of r).last ≤ now)
 pub record IsSameHalf (old new : AskingView) : Type 0 where
   pub peer : new.peer ≡ old.peer
   pub timing : new.timing ≡ old.timing
+  pub pace : new.pace ≡ old.pace
   pub rest : new.rest ≡ old.rest
 
 abbrev pub IsGotBy : Option RequesterView → Option RequesterView → ℕ → List ℕ → Got → Type 0

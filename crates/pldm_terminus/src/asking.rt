@@ -9,7 +9,7 @@ ghost use Rattle.pldm_terminus.specs.Askings.{CameBefore, HasBegun, HasOpened, H
 
 use arrayvec::ArrayVec;
 use mctp_packet::{Eid, Memory, Moment, Reason};
-use pldm_requester::{Due, Got, OpenFault, Opened, Requester, Timing};
+use pldm_requester::{Due, Got, OpenFault, Opened, Pace, Requester, Timing};
 use pldm_wire::{Command, Kind};
 use std::alloc::Global;
 use std::marker::Model;
@@ -35,6 +35,7 @@ pub(crate) struct AskingHalf {
     alloc: Global,
     peer: Eid,
     timing: Timing,
+    pace: Pace,
     requester: Option<Requester>,
     rest: u64,
 }
@@ -46,14 +47,26 @@ impl Model for AskingHalf {
 
     ghost coded = { coded_asking };
 
-    ghost view = { λ a. record { peer = a.peer; timing = a.timing; requester = a.requester; rest = a.rest } };
+    ghost view = { λ a. record {
+      peer = a.peer;
+      timing = a.timing;
+      pace = a.pace;
+      requester = a.requester;
+      rest = a.rest;
+    } };
 }
 
 /// A requester at this endpoint ID, where there is one that it can have.
-fn begun(alloc: Global, own: Option<Eid>, peer: Eid, timing: &Timing) -> Option<Requester>
-    ensures { IsBegunAt (eid_or_null own) peer timing.now result }
+fn begun(
+    alloc: Global,
+    own: Option<Eid>,
+    peer: Eid,
+    timing: &Timing,
+    pace: &Pace,
+) -> Option<Requester>
+    ensures { IsBegunAt (eid_or_null own) peer timing.now pace.now result }
 {
-    match Requester::new(alloc, own?, peer, *timing) {
+    match Requester::with_pace(alloc, own?, peer, *timing, *pace) {
         Ok(requester) => Some(requester),
         Err(_) => None,
     }
@@ -66,18 +79,21 @@ impl AskingHalf {
         own: Option<Eid>,
         peer: Eid,
         timing: Timing,
+        pace: Pace,
         rest: Moment,
     ) -> AskingHalf
-        ensures requester { IsBegunAt (eid_or_null own) peer timing result.requester }
+        ensures requester { IsBegunAt (eid_or_null own) peer timing pace result.requester }
         ensures peer { result.peer ≡ peer }
         ensures timing { result.timing ≡ timing }
+        ensures pace { result.pace ≡ pace }
         ensures rest { result.rest ≡ rest }
     {
-        let requester = begun(alloc, own, peer, &timing);
+        let requester = begun(alloc, own, peer, &timing, &pace);
         AskingHalf {
             alloc,
             peer,
             timing,
+            pace,
             requester,
             rest: rest.get(),
         }
@@ -87,7 +103,7 @@ impl AskingHalf {
     pub(crate) fn begin(&mut self, own: Option<Eid>, now: Moment)
         ensures { HasBegun (eid_or_null own) now self.old self.new }
     {
-        self.requester = begun(self.alloc, own, self.peer, &self.timing);
+        self.requester = begun(self.alloc, own, self.peer, &self.timing, &self.pace);
         self.rest = now.get() + 2 * u64::from(self.timing.keep.get());
     }
 

@@ -13,6 +13,7 @@ ghost use Rattle.pldm_responder.specs.Steps.{restarted_held};
 ghost use Rattle.pldm_wire.specs.Commands.{IsCommand};
 ghost use Rattle.pldm_wire.specs.declared.limits.TheConstants.{MAX_REQUEST_DATA};
 ghost use Rattle.pldm_requester.specs.Asks.{ask_for};
+ghost use Rattle.pldm_requester.specs.Pacing.{at_default};
 ghost use Rattle.pldm_terminus.specs.Askings.{CameBefore, HasBegun, HasOpened, HasOpenedFor, HasTicked, IsBegunAt, IsNextDeadline, IsSameAsking, IsWhyNotOpened};
 ghost use Rattle.pldm_terminus.specs.Directions.{is_answer};
 ghost use Rattle.pldm_terminus.specs.Termini.{HasComeTo, IsFollowed, IsRefusedAt};
@@ -22,7 +23,7 @@ use crate::direction::is_answer;
 use bus_endpoint::{BusEndpoint, BusStep};
 use mctp_packet::{Body, Eid, Moment, NULL_EID};
 use pldm_endpoint::{AnswerRefusal, CommandHandle, ReceiveRefusal};
-use pldm_requester::{Due, Got, Opened, Requester, Timing};
+use pldm_requester::{Due, Got, Opened, Pace, Requester, Timing};
 use pldm_responder::MessageOutcome;
 use pldm_wire::{Answer, Command, Kind, MAX_RESPONSE_DATA};
 use std::alloc::Global;
@@ -79,12 +80,34 @@ impl Terminus {
         rest: Moment,
     ) -> Terminus
         ensures answering { result.answering ≡ answering }
-        ensures requester { IsBegunAt answering.endpoint.end.own peer timing result.asking.requester }
+        ensures requester { IsBegunAt answering.endpoint.end.own peer timing (at_default timing.keep)
+            result.asking.requester }
         ensures peer { result.asking.peer ≡ peer }
         ensures timing { result.asking.timing ≡ timing }
+        ensures pace { result.asking.pace ≡ at_default timing.keep }
         ensures rest { result.asking.rest ≡ rest }
     {
-        let asking = AskingHalf::new(alloc, answering.endpoint().own(), peer, timing, rest);
+        let pace = Pace::at_default(timing.keep);
+        Terminus::with_pace(alloc, answering, peer, timing, pace, rest)
+    }
+
+    /// As [`Terminus::new`], with a pace of its own ([`Requester::with_pace`]). Also a requester that begins anew has it.
+    pub fn with_pace(
+        alloc: Global,
+        answering: BusEndpoint,
+        peer: Eid,
+        timing: Timing,
+        pace: Pace,
+        rest: Moment,
+    ) -> Terminus
+        ensures answering { result.answering ≡ answering }
+        ensures requester { IsBegunAt answering.endpoint.end.own peer timing pace result.asking.requester }
+        ensures peer { result.asking.peer ≡ peer }
+        ensures timing { result.asking.timing ≡ timing }
+        ensures pace { result.asking.pace ≡ pace }
+        ensures rest { result.asking.rest ≡ rest }
+    {
+        let asking = AskingHalf::new(alloc, answering.endpoint().own(), peer, timing, pace, rest);
         Terminus { answering, asking }
     }
 
