@@ -1126,14 +1126,17 @@ struct needleoat_terminus {
 struct needleoat_peer_settings {
     uint8_t device;      /* the endpoint ID of the peer, 8 to 254 */
     uint8_t tries;       /* how often a request is sent at most, 1 to 8 */
+    bool brief;          /* this and the last two as of struct needleoat_requester_settings */
     uint32_t keep_ms;    /* how long the peer keeps an answer for copies, 1 to 60,000 */
     uint32_t timeout_ms; /* how long after it was sent a request is sent again, 1 or more */
+    uint32_t lifetime_ms;
+    uint32_t window;
 };
 
 /*
  * Makes a terminus: 0, or enum needleoat_refusal: 7, else 6 where needleoat_endpoint_new refuses `settings` with 6, a
  * setting of `peer` is out of its range, `peer->device` is the endpoint ID that it has at first, or `tries` times
- * `timeout_ms` is above the peer's `keep_ms`; else 2 where a moment is past the last one; else 1. It opens no request
+ * `timeout_ms` is above the lifetime; else 2 where a moment is past the last one; else 1. It opens no request
  * before `rest_ms`: after a reset of the processor let that be `now_ms` and twice the peer's `keep_ms`.
  */
 uint8_t needleoat_terminus_new(const struct needleoat_endpoint_settings *settings,
@@ -1522,11 +1525,14 @@ NEEDLEOAT_AT(needleoat_status, length, 4);
 NEEDLEOAT_ASSERT(sizeof(struct needleoat_terminus) == 16);
 NEEDLEOAT_AT(needleoat_terminus, at, 0);
 NEEDLEOAT_AT(needleoat_terminus, is_live, 8);
-NEEDLEOAT_ASSERT(sizeof(struct needleoat_peer_settings) == 12);
+NEEDLEOAT_ASSERT(sizeof(struct needleoat_peer_settings) == 20);
 NEEDLEOAT_AT(needleoat_peer_settings, device, 0);
 NEEDLEOAT_AT(needleoat_peer_settings, tries, 1);
+NEEDLEOAT_AT(needleoat_peer_settings, brief, 2);
 NEEDLEOAT_AT(needleoat_peer_settings, keep_ms, 4);
 NEEDLEOAT_AT(needleoat_peer_settings, timeout_ms, 8);
+NEEDLEOAT_AT(needleoat_peer_settings, lifetime_ms, 12);
+NEEDLEOAT_AT(needleoat_peer_settings, window, 16);
 NEEDLEOAT_ASSERT(sizeof(struct needleoat_coming) == 72);
 NEEDLEOAT_AT(needleoat_coming, half, 0);
 NEEDLEOAT_AT(needleoat_coming, step, 8);

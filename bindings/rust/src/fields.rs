@@ -427,10 +427,16 @@ pub struct PeerSettings {
     pub device: u8,
     /// How often a request is sent at most, 1 to 8.
     pub tries: u8,
+    /// As of [`RequesterSettings`].
+    pub brief: bool,
     /// How long the peer keeps an answer for copies, 1 to 60,000 milliseconds.
     pub keep_ms: u32,
     /// How long after it was sent a request is sent again, 1 millisecond or more.
     pub timeout_ms: u32,
+    /// The line's lifetime, as of [`RequesterSettings`]; 0 stands for `keep_ms`.
+    pub lifetime_ms: u32,
+    /// The peer's window, as of [`RequesterSettings`]; 0 stands for all 32.
+    pub window: u32,
 }
 
 impl RequesterSettings {

@@ -143,8 +143,8 @@ layout! {
     Status 8 {
         kind 0, length 4,
     }
-    PeerSettings 12 {
-        device 0, tries 1, keep_ms 4, timeout_ms 8,
+    PeerSettings 20 {
+        device 0, tries 1, brief 2, keep_ms 4, timeout_ms 8, lifetime_ms 12, window 16,
     }
     Coming 72 {
         half 0, step 8, receiving 56,

@@ -1,5 +1,5 @@
 -- The settings with which C makes an endpoint.
-use Rattle.std.specs.Prelude.{◌≡◌, ℕ, ◌≤◌, ◌==◌, true, false, MatchBool, [], Option, Some, None, ◌⊎◌, if◌then◌else◌}
+use Rattle.std.specs.Prelude.{◌≡◌, ℕ, ◌≤◌, ◌==◌, true, false, MatchBool, [], Option, Some, None, ◌⊎◌, if◌then◌else◌, Bool}
 use Rattle.mctp_control.specs.declared.control_responder.ControlResponder.{ControlResponder}
 use Rattle.mctp_packet.specs.Ids.{IsEid, IsKeep}
 use Rattle.mctp_packet.specs.declared.TheConstants.{NULL_EID}
@@ -65,10 +65,14 @@ window_in window = if window == 0 then INSTANCE_IDS else window
 abbrev pub lifetime_in : (lifetime keep : ℕ) → ℕ
 lifetime_in lifetime keep = if lifetime == 0 then keep else lifetime
 
+-- a pace of these settings
+abbrev pub pace_of : (lifetime keep window : ℕ) → Bool → Pace
+pace_of lifetime keep window brief =
+    record { lifetime = lifetime_in lifetime keep; window = window_in window; spread = false; brief = brief }
+
 -- the pace of a requester
 abbrev pub pace_in : RequesterSettings → Pace
-pace_in s =
-    record { lifetime = lifetime_in s.lifetime_ms s.keep_ms; window = window_in s.window; spread = false; brief = s.brief }
+pace_in s = pace_of s.lifetime_ms s.keep_ms s.window s.brief
 
 abbrev pub busy_in : ℕ → RestartPolicy
 busy_in busy = if busy == BUSY_SETS then Sets none_handed_on else All

@@ -6,7 +6,10 @@ use Rattle.mctp_packet.specs.declared.TheConstants.{MAX_MOMENT}
 use Rattle.pldm_requester.specs.Asks.{Ask}
 use Rattle.pldm_requester.specs.Slots.{RequesterView, held_of}
 use Rattle.pldm_requester.specs.Steps.{RequesterState, got_at, opening_answer}
-use Rattle.pldm_requester.specs.Timings.{timing_fault}
+use Rattle.pldm_requester.specs.Pacing.{setting_fault}
+use Rattle.pldm_requester.specs.declared.pace.Pace.{Pace}
+use Rattle.pldm_wire.specs.declared.assigned.TheConstants.{INSTANCE_IDS}
+use Rattle.needleoat_c.specs.Settings.{pace_of}
 use Rattle.pldm_requester.specs.declared.results.Opened.{Opened}
 use Rattle.pldm_requester.specs.declared.timing.Timing.{Timing}
 use Rattle.pldm_responder.specs.Ends.{eid_or_null}
@@ -81,25 +84,33 @@ refusal_at now (Some inside) = if is_next now inside then 0 else BAD_MOMENT
 abbrev pub timing_in : PeerSettings → Timing
 timing_in p = record { keep = p.keep_ms; timeout = p.timeout_ms; tries = p.tries }
 
--- the peer's endpoint ID, a keeping time, and a timing without a fault at this endpoint ID
+abbrev pub peer_pace : PeerSettings → Pace
+peer_pace p = pace_of p.lifetime_ms p.keep_ms p.window p.brief
+
+-- the peer's endpoint ID, a keeping time, a window of no more than all instance IDs, and a timing and a pace without a
+-- fault at this endpoint ID
 abbrev pub IsPeer : ℕ → PeerSettings → Type 0
-IsPeer own p = IsEid p.device × IsKeep p.keep_ms × (timing_fault own p.device (timing_in p) ≡ None)
+IsPeer own p =
+    IsEid p.device × IsKeep p.keep_ms × (p.window ≤ INSTANCE_IDS)
+    × (setting_fault own p.device (timing_in p) (peer_pace p) ≡ None)
 
 abbrev pub IsSetup : EndpointSettings → PeerSettings → Type 0
 IsSetup s p = settings.IsSetup s × IsPeer (eid_or_null (first_eid s)) p
 
 -- one was made with these settings at a moment; it asks another so, and nothing before a second moment
-pub record IsTerminus (s : EndpointSettings) (other : ℕ) (pace : Timing) (now from : ℕ) (new : Inside) : Type 0 where
+pub record IsTerminus (s : EndpointSettings) (other : ℕ) (times : Timing) (paced : Pace) (now from : ℕ) (new : Inside)
+    : Type 0 where
   pub answering : answering.IsMade s now new.answering
-  pub requester : IsBegunAt (eid_or_null (first_eid s)) other pace new.asking.requester
+  pub requester : IsBegunAt (eid_or_null (first_eid s)) other times paced new.asking.requester
   pub peer : new.asking.peer ≡ other
-  pub timing : new.asking.timing ≡ pace
+  pub timing : new.asking.timing ≡ times
+  pub pace : new.asking.pace ≡ paced
   pub rest : new.asking.rest ≡ from
 
 -- it is behind the handle
 abbrev pub IsNew : EndpointSettings → PeerSettings → ℕ → ℕ → Option Inside → Type 0
 IsNew s p now rest None = ⊥
-IsNew s p now rest (Some new) = IsTerminus s p.device (timing_in p) now rest new
+IsNew s p now rest (Some new) = IsTerminus s p.device (timing_in p) (peer_pace p) now rest new
 
 -- 0, or why none is made: one is there; the settings are none; a moment is past the last one; or no memory was left
 pub record ReportsMaking (s : EndpointSettings) (p : PeerSettings) (now rest : ℕ) (is_live : Bool) (result : ℕ)

@@ -1,11 +1,12 @@
 //! The structs of settings from which C makes an endpoint or a requester.
 
 ghost use Rattle.std.specs.Prelude.{◌≡◌, ◌≤◌, ◌↔◌, IsSome, IfSome, is_some, true};
-ghost use Rattle.pldm_requester.specs.Timings.{timing_fault};
+ghost use Rattle.pldm_requester.specs.Pacing.{setting_fault};
+ghost use Rattle.pldm_wire.specs.Settings.{IsWindow};
 ghost use Rattle.pldm_responder.specs.Ends.{eid_or_null};
-ghost use Rattle.needleoat_c.specs.Termini.{IsPeer, timing_in};
+ghost use Rattle.needleoat_c.specs.Termini.{IsPeer, peer_pace, timing_in};
 ghost use Rattle.pldm_wire.specs.declared.assigned.TheConstants.{INSTANCE_IDS};
-ghost use Rattle.needleoat_c.specs.Settings.{IsBusyKind, IsKeeping, IsOwnEid, IsSetup, busy_in, control_in, first_eid, handed_in, keeping_in, pace_in, static_eid, window_in};
+ghost use Rattle.needleoat_c.specs.Settings.{IsBusyKind, IsKeeping, IsOwnEid, IsSetup, busy_in, control_in, first_eid, handed_in, keeping_in, pace_in, pace_of, static_eid, window_in};
 
 use crate::kinds::{BUSY_ALL, BUSY_SETS};
 use mctp_control::{ControlResponder, KeptAssignments, UUID_BYTES, VERSION_BYTES};
@@ -202,24 +203,33 @@ pub struct RequesterSettings {
 const _: () = prove!(size_of::<RequesterSettings>() == 20);
 
 impl RequesterSettings {
-    /// Its pace, where its window is in range: requests are not spread.
+    /// Its pace, where its window is in range.
     pub(crate) fn pace(&self) -> Option<Pace>
         ensures some { IsSome result ↔ (self.now.window ≤ INSTANCE_IDS) }
         ensures value { IfSome result (λ pace. pace ≡ pace_in self.now) }
     {
-        let window = window_of(self.window)?;
-        let lifetime = if self.lifetime_ms == 0 {
-            self.keep_ms
-        } else {
-            self.lifetime_ms
-        };
-        Some(Pace {
-            lifetime: u64::from(lifetime),
-            window: window.get(),
-            spread: false,
-            brief: self.brief,
-        })
+        pace_of(self.lifetime_ms, self.keep_ms, self.window, self.brief)
     }
+}
+
+/// The pace of these settings, where the window is in range: requests are not spread.
+fn pace_of(lifetime_ms: u32, keep_ms: u32, window: u32, brief: bool) -> Option<Pace>
+    ensures some { IsSome result ↔ (window ≤ INSTANCE_IDS) }
+    ensures value { IfSome result (λ pace. pace ≡ pace_of lifetime_ms keep_ms window brief) }
+    ensures range { IfSome result (λ pace. IsWindow pace.window) }
+{
+    let window = window_of(window)?;
+    let lifetime = if lifetime_ms == 0 {
+        keep_ms
+    } else {
+        lifetime_ms
+    };
+    Some(Pace {
+        lifetime: u64::from(lifetime),
+        window: window.get(),
+        spread: false,
+        brief,
+    })
 }
 
 /// How an end that answers asks its peer too.
@@ -230,14 +240,20 @@ pub struct PeerSettings {
     pub device: u8,
     /// How often a request is sent at most, 1 to 8.
     pub tries: u8,
+    /// As of [`RequesterSettings`].
+    pub brief: bool,
     /// How long the peer keeps an answer for copies, in milliseconds, 1 to 60,000.
     pub keep_ms: u32,
     /// How long after it was sent a request is sent again, in milliseconds.
     pub timeout_ms: u32,
+    /// The line's lifetime, as of [`RequesterSettings`].
+    pub lifetime_ms: u32,
+    /// For how many instance IDs of this end the peer keeps answers, as of [`RequesterSettings`].
+    pub window: u32,
 }
 
 // As in `include/needleoat.h`.
-const _: () = prove!(size_of::<PeerSettings>() == 12);
+const _: () = prove!(size_of::<PeerSettings>() == 20);
 
 /// A peer, and how it is asked.
 #[derive(Clone, Copy)]
@@ -246,6 +262,8 @@ pub(crate) struct Peer {
     pub(crate) device: Eid,
     /// When a request is sent again, and when it is given up.
     pub(crate) timing: Timing,
+    /// How soon an instance ID is used again.
+    pub(crate) pace: Pace,
 }
 
 impl PeerSettings {
@@ -254,6 +272,7 @@ impl PeerSettings {
         ensures some { IsSome result ↔ IsPeer (eid_or_null own) self.now }
         ensures device { IfSome result (λ peer. peer.device ≡ self.now.device) }
         ensures timing { IfSome result (λ peer. peer.timing ≡ timing_in self.now) }
+        ensures pace { IfSome result (λ peer. peer.pace ≡ peer_pace self.now) }
     {
         let own = match own {
             Some(own) => own.get(),
@@ -261,7 +280,8 @@ impl PeerSettings {
         };
         let device = Eid::new(self.device)?;
         let keep = Keep::new(self.keep_ms)?;
-        if self.has_fault(own) {
+        let pace = pace_of(self.lifetime_ms, self.keep_ms, self.window, self.brief)?;
+        if self.has_fault(own, &pace) {
             return None;
         }
         let timing = Timing {
@@ -269,19 +289,28 @@ impl PeerSettings {
             timeout: self.timeout_ms,
             tries: self.tries,
         };
-        Some(Peer { device, timing })
+        Some(Peer {
+            device,
+            timing,
+            pace,
+        })
     }
 
-    /// Whether no requester at this endpoint ID can ask so.
-    fn has_fault(&self, own: u8) -> bool
-        ensures { result ≡ is_some (timing_fault own self.now.device (timing_in self.now)) }
+    /// Whether no requester at this endpoint ID can ask so, at a pace of a window that there is.
+    fn has_fault(&self, own: u8, pace: &Pace) -> bool
+        requires { IsWindow pace.now.window }
+        ensures { result ≡ is_some (setting_fault own self.now.device (timing_in self.now) pace.now) }
     {
         if self.timeout_ms == 0 || self.tries < 1 || self.tries > MAX_TRIES {
             return true;
         }
-        if u64::from(self.tries) * u64::from(self.timeout_ms) > u64::from(self.keep_ms) {
+        let (life, keep) = (
+            u64::from(self.tries) * u64::from(self.timeout_ms),
+            u64::from(self.keep_ms),
+        );
+        if life > keep || own == self.device {
             return true;
         }
-        own == self.device
+        pace.lifetime == 0 || pace.lifetime > keep || life > pace.lifetime
     }
 }

@@ -41,10 +41,10 @@ pub(crate) fn start(
     requires setup { IsSetup settings.now }
     requires own { own ≡ first_eid settings.now }
     requires keeping { keeping ≡ keeping_in settings.now }
-    ensures { IfOk result (λ made. IsTerminus settings.now peer.device peer.timing now rest made.value) }
+    ensures { IfOk result (λ made. IsTerminus settings.now peer.device peer.timing peer.pace now rest made.value) }
 {
     let answering = endpoint::made(alloc, own, keeping, settings, now)?;
-    let made = Terminus::new(alloc, answering, peer.device, peer.timing, rest);
+    let made = Terminus::with_pace(alloc, answering, peer.device, peer.timing, peer.pace, rest);
     Ok(Box::new(alloc, made)?)
 }
 
