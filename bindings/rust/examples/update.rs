@@ -1,7 +1,7 @@
 //! Firmware update (DSP0267) over a link that loses every eleventh packet and repeats every seventh: a device at endpoint
 //! 9, with a terminus, the machine of a firmware device and a flash of two slots, and an update agent at endpoint 8. The
-//! first update runs to its end; the second one is cancelled while the device fetches the image, and leaves the active
-//! slot as it was.
+//! first update runs to its end, and its image is read back; the second one is cancelled while the device fetches the
+//! image, and leaves the active slot as it was.
 
 use std::collections::VecDeque;
 use std::fmt::{self, Write};
@@ -21,6 +21,8 @@ const FLASH_MS: u64 = 3;
 const SLOT_BYTES: u32 = 8192;
 const IMAGE_BYTES: usize = 6001;
 const PIECE_BYTES: u32 = 256;
+/// The OEM type of the one request that reads the active image back.
+const READ_TYPE: u8 = 63;
 
 // Commands of firmware update (DSP0267, "PLDM for firmware update commands").
 const REQUEST_UPDATE: u8 = 0x10;
@@ -30,6 +32,7 @@ const REQUEST_FIRMWARE_DATA: u8 = 0x15;
 const APPLY_COMPLETE: u8 = 0x18;
 const ACTIVATE_FIRMWARE: u8 = 0x1a;
 const CANCEL_UPDATE: u8 = 0x1d;
+const READ_BACK: u8 = 0xff;
 
 /// ASCII, two bytes.
 const VERSION: [u8; 4] = [1, 2, b'v', b'2'];
@@ -89,7 +92,8 @@ impl End {
             sources: 1,
             open_messages: 1,
             pending_commands: 1,
-            pldm_types: 1 << command::FIRMWARE_UPDATE,
+            window: 4,
+            pldm_types: 1 << command::FIRMWARE_UPDATE | 1 << READ_TYPE,
             ..EndpointSettings::ZERO
         };
         let peer = PeerSettings { device, tries: 8, keep_ms: 500, timeout_ms: 50 };
@@ -112,9 +116,10 @@ impl End {
         Some(due)
     }
 
-    /// Opens a request of firmware update; its number.
+    /// Opens a request; its number.
     fn ask(&mut self, now_ms: u64, command: u8, data: &[u8], link: &mut Link) -> Option<u64> {
-        let opened = self.terminus.open_request(moment(now_ms), command::FIRMWARE_UPDATE, command, data);
+        let pldm_type = if command == READ_BACK { READ_TYPE } else { command::FIRMWARE_UPDATE };
+        let opened = self.terminus.open_request(moment(now_ms), pldm_type, command, data);
         let number = opened.ok()?.number; // else too soon: later once more
         self.send_request(number, link);
         Some(number)
@@ -153,6 +158,13 @@ impl Flash {
             self.since = now_ms;
         }
         self.steps.push_back((step, piece.to_vec()));
+    }
+
+    /// The bytes of the active image that a request asks for: an offset, a length.
+    fn read(&self, asked: &[u8]) -> Option<&[u8]> {
+        let offset = u32::from_le_bytes(*asked.first_chunk()?) as usize;
+        let length = u32::from_le_bytes(*asked.last_chunk()?) as usize;
+        self.slots[self.active].get(offset..)?.get(..length)
     }
 
     /// Does a step; whether it went well. The active slot is never written.
@@ -194,8 +206,21 @@ struct Device {
 }
 
 impl Device {
+    /// Makes the terminus and the machine: 0, or why not.
+    fn make(&mut self) -> u8 {
+        match self.end.make(DEVICE, AGENT) {
+            0 => number(with_memory(|| self.machine.make(0))),
+            refusal => refusal,
+        }
+    }
+
     fn respond(&mut self, now_ms: u64, asked: &CommandHandle, link: &mut Link) {
         let Some(request) = self.end.terminus.request(asked) else { return };
+        if request.pldm_type == READ_TYPE {
+            let read = self.flash.read(request.bytes());
+            let code = if read.is_some() { completion_code::SUCCESS } else { completion_code::INVALID_DATA };
+            return self.end.respond(asked, code, read.unwrap_or_default(), link);
+        }
         match self.machine.receive(asked, moment(now_ms), &request, Some(SLOT_BYTES)) {
             Ok((answer, step)) => {
                 self.flash.plan(now_ms, step, &[]);
@@ -267,10 +292,12 @@ struct Agent {
     open: Option<u64>,
     is_over: bool,
     rest: u64,
+    /// What came back of the active image.
+    read: Vec<u8>,
 }
 
 /// The data of a command: each number of several bytes has its lowest one first.
-fn agent_data(command: u8) -> Vec<u8> {
+fn agent_data(command: u8, read: usize) -> Vec<u8> {
     let size = (IMAGE_BYTES as u32).to_le_bytes();
     match command {
         // The most bytes of a piece, one component, one request at once, no package data.
@@ -280,6 +307,10 @@ fn agent_data(command: u8) -> Vec<u8> {
         // The component, no stamp, the size, no options.
         UPDATE_COMPONENT => [&[10, 0, 1, 0, 0, 0, 0, 0, 0][..], &size, &[0; 4], &VERSION].concat(),
         ACTIVATE_FIRMWARE => vec![0],
+        READ_BACK => {
+            let length = (IMAGE_BYTES - read).min(PIECE_BYTES as usize) as u32;
+            [(read as u32).to_le_bytes(), length.to_le_bytes()].concat()
+        }
         _ => Vec::new(),
     }
 }
@@ -289,12 +320,12 @@ impl Agent {
         let due = self.end.tick(now_ms, link);
         self.open = self.open.filter(|open| !due.iter().any(|due| due.given_up().contains(open)));
         if self.next != 0 && self.open.is_none() && now_ms >= self.rest {
-            self.open = self.end.ask(now_ms, self.next, &agent_data(self.next), link);
+            self.open = self.end.ask(now_ms, self.next, &agent_data(self.next, self.read.len()), link);
         }
     }
 
     fn answered(&mut self, now_ms: u64, number: u64) {
-        let (code, _) = self.end.response(number);
+        let (code, data) = self.end.response(number);
         if self.open != Some(number) {
             return;
         }
@@ -303,12 +334,17 @@ impl Agent {
             self.rest = now_ms + 100; // not yet: asked again
             return;
         }
-        self.is_over = matches!(self.next, ACTIVATE_FIRMWARE | CANCEL_UPDATE);
-        self.next = match self.next {
+        if self.next == READ_BACK {
+            self.read.extend(data);
+        }
+        let asked = self.next;
+        self.next = match asked {
             REQUEST_UPDATE => PASS_COMPONENT_TABLE,
             PASS_COMPONENT_TABLE => UPDATE_COMPONENT,
+            READ_BACK if self.read.len() < IMAGE_BYTES => READ_BACK,
             _ => 0,
         };
+        self.is_over = self.next == 0 && asked != UPDATE_COMPONENT;
     }
 
     /// The bytes of the image that a RequestFirmwareData asks for, with zeros past its end.
@@ -362,10 +398,15 @@ impl Both {
         self.agent.is_over && stage == UpdateStage::Idle && self.device.flash.steps.is_empty()
     }
 
-    /// Runs an update until the agent is done and the device idle.
-    fn run(&mut self, image: Vec<u8>, cancel_from: usize, out: &mut String) -> fmt::Result {
-        let agent = &mut self.agent;
-        (agent.image, agent.cancel_from, agent.next, agent.is_over) = (image, cancel_from, REQUEST_UPDATE, false);
+    /// Runs an update.
+    fn update(&mut self, image: Vec<u8>, cancel_from: usize, out: &mut String) -> fmt::Result {
+        (self.agent.image, self.agent.cancel_from) = (image, cancel_from);
+        self.run(REQUEST_UPDATE, out)
+    }
+
+    /// Runs from this command on until the agent is done and the device idle.
+    fn run(&mut self, first: u8, out: &mut String) -> fmt::Result {
+        (self.agent.next, self.agent.is_over) = (first, false);
         let end = self.now_ms + 1_000_000;
         while self.now_ms < end && !self.is_over() {
             self.agent.turn(self.now_ms, &mut self.link);
@@ -391,19 +432,28 @@ impl Both {
 pub fn run(_input: &str, out: &mut String) -> fmt::Result {
     let flash = Flash { slots: [make_image(1), Vec::new()], ..Flash::default() };
     let device = Device { end: End::none(), machine: Firmware::none(), flash, shown: UpdateStage::Idle };
-    let agent =
-        Agent { end: End::none(), image: Vec::new(), cancel_from: 0, next: 0, open: None, is_over: false, rest: 0 };
+    let agent = Agent {
+        end: End::none(),
+        image: Vec::new(),
+        cancel_from: 0,
+        next: 0,
+        open: None,
+        is_over: false,
+        rest: 0,
+        read: Vec::new(),
+    };
     let mut both = Both { device, agent, link: Link::default(), now_ms: 0 };
-    let (device, agent) = (both.device.end.make(DEVICE, AGENT), both.agent.end.make(AGENT, DEVICE));
-    let machine = number(with_memory(|| both.device.machine.make(0)));
-    writeln!(out, "made {device} {agent} {machine}")?;
+    let device = both.device.make();
+    writeln!(out, "device {device} agent {}", both.agent.end.make(AGENT, DEVICE))?;
     let image = make_image(2);
     both.report(&image, out)?;
     writeln!(out, "the first update")?;
-    both.run(image.clone(), IMAGE_BYTES, out)?;
+    both.update(image.clone(), IMAGE_BYTES, out)?;
     both.report(&image, out)?;
-    writeln!(out, "the second one is cancelled")?;
-    both.run(make_image(3), 2048, out)?;
+    both.run(READ_BACK, out)?;
+    writeln!(out, "read back: {}", if both.agent.read == image { "the same" } else { "another one" })?;
+    writeln!(out, "the second update is cancelled")?;
+    both.update(make_image(3), 2048, out)?;
     both.report(&image, out)
 }
 
