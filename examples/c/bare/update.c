@@ -1,7 +1,7 @@
 /*
  * The firmware of a device that takes a firmware update (DSP0267), on a Cortex-M without an operating system: the
  * endpoint 9 on a serial line (DSP0253), with two slots for images of up to 128 KiB. The slots stand in the board's
- * outer RAM, which no other data uses: on a board with a flash these calls erase and write it. Slot 0 is empty at first.
+ * outer RAM, which no other data uses: on a board with a flash these calls erase and write it. Slot 0 is empty first.
  */
 #include "board.h"
 #include "needleoat.h"
