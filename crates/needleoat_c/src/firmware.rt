@@ -1,9 +1,9 @@
 //! The work of each call on the machine behind a handle.
 
-ghost use Rattle.std.specs.Prelude.{◌≡◌, ◌≤◌, IfOk, IfSome, Some, is_some, length, option_map};
-ghost use Rattle.pldm_update.specs.DeviceAnswers.{answered, done, given_up, opened, ticked};
+ghost use Rattle.std.specs.Prelude.{◌≡◌, IfOk, Some, length};
+ghost use Rattle.pldm_update.specs.DeviceAnswers.{answered, given_up, opened, ticked};
 ghost use Rattle.pldm_update.specs.Machines.{first_machine};
-ghost use Rattle.needleoat_c.specs.Firmware.{AsksCommand, HasAnswer, ReportsRequest, coming_answer, coming_step, command_of, is_moment, left_at, left_by_coming, refusal_at, report_of, result_of, room_in, stage_number, stage_report, told, told_at, wish_of};
+ghost use Rattle.needleoat_c.specs.Firmware.{AsksCommand, HasAnswer, ReportsRequest, coming_answer, coming_step, command_of, left_at, left_by_coming, refusal_at, report_of, result_of, room_in, stage_number, stage_report, told, told_at, wish_of};
 
 use crate::firmware_reports::{FirmwareAnswer, FlashReport, StageReport};
 use crate::kinds::{

@@ -214,7 +214,10 @@ pub extern "C" fn needleoat_firmware_tick(
 
 /// Reports where the device is in the update.
 #[unsafe(no_mangle)]
-pub extern "C" fn needleoat_firmware_stage(alloc: Global, firmware: &mut FirmwareForC) -> StageReport
+pub extern "C" fn needleoat_firmware_stage(
+    alloc: Global,
+    firmware: &mut FirmwareForC,
+) -> StageReport
     requires { IsUpheld firmware.old }
     ensures upheld { IsUpheld firmware.new }
     ensures stage { result ≡ stage_report firmware.old.handle.held }
