@@ -1,5 +1,5 @@
-//! Both ends of PLDM over MCTP for C, and one that answers and asks, each behind a handle of two words: `include/needleoat.h`
-//! declares these calls.
+//! Both ends of PLDM over MCTP for C, one that answers and asks, and the machine of a firmware device, each behind a
+//! handle of two words: `include/needleoat.h` declares these calls.
 #![tactic(auto)]
 
 mod endpoint;
