@@ -1296,12 +1296,25 @@ struct needleoat_stage {
  */
 uint8_t needleoat_firmware_new(uint64_t latest, struct needleoat_firmware *firmware);
 
+/* Which component of a device is meant (DSP0267, "PassComponentTable command"). */
+struct needleoat_component {
+    uint16_t classification;
+    uint16_t identifier; /* the vendor's */
+    uint8_t index;       /* which of several with this classification and identifier */
+};
+
+/*
+ * Puts the component that a command of firmware update names into `component`, and returns true: PassComponentTable and
+ * UpdateComponent name one. False, with `component` as it was, where it is another command or can't be read.
+ */
+bool needleoat_firmware_component(uint8_t command, const uint8_t *data, uint64_t length,
+                                  struct needleoat_component *component);
+
 /*
  * Takes a command of PLDM type NEEDLEOAT_FIRMWARE_UPDATE as it was handed on, `command` and `length` bytes of data,
  * from the endpoint `source`, and puts the answer into `answer`; also that to a command that can't be read, or is
  * refused: a completion code and no data. `room` is the most bytes that an image of the component of an UpdateComponent
- * may have, 0 where the device has no such component: the bytes 0 to 4 of its data say which (DSP0267,
- * "UpdateComponent command").
+ * may have, 0 where the device has no such component; where it has several, needleoat_firmware_component says which.
  *
  * The call is refused, with `answer` as it was, with the first of 3, 6 (`source` is no endpoint ID), 2, and 18: the
  * firmware itself has to answer QueryDeviceIdentifiers and GetFirmwareParameters.
@@ -1684,6 +1697,10 @@ NEEDLEOAT_AT(needleoat_flash_step, size, 8);
 NEEDLEOAT_AT(needleoat_flash_step, offset, 12);
 NEEDLEOAT_AT(needleoat_flash_step, refusal, 16);
 NEEDLEOAT_AT(needleoat_flash_step, action, 17);
+NEEDLEOAT_ASSERT(sizeof(struct needleoat_component) == 6);
+NEEDLEOAT_AT(needleoat_component, classification, 0);
+NEEDLEOAT_AT(needleoat_component, identifier, 2);
+NEEDLEOAT_AT(needleoat_component, index, 4);
 NEEDLEOAT_ASSERT(sizeof(struct needleoat_firmware_answer) == 324);
 NEEDLEOAT_AT(needleoat_firmware_answer, code, 0);
 NEEDLEOAT_AT(needleoat_firmware_answer, length, 4);

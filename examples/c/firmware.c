@@ -45,6 +45,15 @@ static void update_command(uint8_t source, uint64_t now_ms, uint8_t command, con
     print_flash(step);
 }
 
+/* The component that a command names. */
+static void print_component(uint8_t command, const char *hex) {
+    uint8_t data[32];
+    struct needleoat_component named = {0x77, 0x77, 0x77};
+    bool is_named = needleoat_firmware_component(command, data, from_hex(hex, data), &named);
+    printf("component of %02x: %d %04x %04x %02x\n", command, is_named, named.classification, named.identifier,
+           named.index);
+}
+
 static void print_stage(void) {
     struct needleoat_stage at = needleoat_firmware_stage(&machine);
     printf("stage %u stored %" PRIu32 "\n", at.stage, at.stored);
@@ -148,6 +157,10 @@ static void apply_one(uint64_t first_step, uint64_t first_request) {
 }
 
 int main(void) {
+    print_component(0x13, "05" "0a01" "0203" "04" "00000000" "0102" "7632");
+    print_component(0x14, "0b05" "0607" "08" "00000000" "64000000" "00000000" "0102" "7632");
+    print_component(0x14, "0b05" "0607" "08");
+    print_component(REQUEST_UPDATE);
     refusals();
     bad_image();
     update_command(8, 18, UPDATE_COMPONENT("64000000"), 100);

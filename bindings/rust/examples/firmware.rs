@@ -4,7 +4,7 @@
 
 use std::fmt::{self, Write};
 
-use needleoat::{CommandHandle, Firmware, FlashAction, FlashStep, Refusal, Request};
+use needleoat::{component_of, CommandHandle, Component, Firmware, FlashAction, FlashStep, Refusal, Request};
 
 mod shared;
 use shared::{hex, moment, number};
@@ -19,6 +19,22 @@ const PASS_COMPONENT_TABLE: [u8; 14] = [5, 0x0a, 0, 1, 0, 0, 0, 0, 0, 0, 1, 2, b
 /// UpdateComponent of an image of so many bytes.
 fn update_component(size: u32) -> Vec<u8> {
     [&[0x0a, 0, 1, 0, 0, 0, 0, 0, 0][..], &size.to_le_bytes(), &[0, 0, 0, 0, 1, 2, b'v', b'2']].concat()
+}
+
+/// A request of firmware update.
+fn request_of(command: u8, data: &[u8]) -> Request {
+    let mut request = Request { pldm_type: 5, command, length: data.len() as u32, ..Request::ZERO };
+    request.data[..data.len()].copy_from_slice(data);
+    request
+}
+
+/// The component that a command names.
+fn write_component(command: u8, data: &[u8], out: &mut String) -> fmt::Result {
+    let named = component_of(&request_of(command, data));
+    let none = Component { classification: 0x77, identifier: 0x77, index: 0x77 };
+    let Component { classification, identifier, index } = named.unwrap_or(none);
+    let is_named = u8::from(named.is_some());
+    writeln!(out, "component of {command:02x}: {is_named} {classification:04x} {identifier:04x} {index:02x}")
 }
 
 struct Machine<'a> {
@@ -47,8 +63,7 @@ impl Machine<'_> {
 
     /// A command of the agent at an endpoint, where an image may have so many bytes.
     fn command(&mut self, source: u8, now_ms: u64, command: u8, data: &[u8], room: u32) -> fmt::Result {
-        let mut request = Request { pldm_type: 5, command, length: data.len() as u32, ..Request::ZERO };
-        request.data[..data.len()].copy_from_slice(data);
+        let request = request_of(command, data);
         let handle = CommandHandle { number: 0, source, instance_id: 0 };
         write!(self.out, "update command {command:02x}: ")?;
         match self.machine.receive(&handle, moment(now_ms), &request, Some(room)) {
@@ -198,6 +213,11 @@ impl Machine<'_> {
 
 /// Writes what the example in C writes.
 pub fn run(_input: &str, out: &mut String) -> fmt::Result {
+    write_component(0x13, &[5, 0x0a, 1, 2, 3, 4, 0, 0, 0, 0, 1, 2, b'v', b'2'], out)?;
+    let transfer = [0x0b, 5, 6, 7, 8, 0, 0, 0, 0, 100, 0, 0, 0, 0, 0, 0, 0, 1, 2, b'v', b'2'];
+    write_component(0x14, &transfer, out)?;
+    write_component(0x14, &transfer[..5], out)?;
+    write_component(0x10, &REQUEST_UPDATE, out)?;
     Machine { machine: Firmware::none(), out }.all()
 }
 

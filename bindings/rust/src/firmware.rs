@@ -71,6 +71,28 @@ impl FlashStep {
     }
 }
 
+/// Which component of a device is meant (DSP0267, "PassComponentTable command").
+#[derive(Clone, Copy, Debug, PartialEq, Eq, Hash)]
+pub struct Component {
+    /// Its classification.
+    pub classification: u16,
+    /// Its identifier, which the vendor chooses.
+    pub identifier: u16,
+    /// Which of several components with this classification and identifier it is.
+    pub index: u8,
+}
+
+/// The component that a command of firmware update names: PassComponentTable and UpdateComponent name one. `None` where
+/// it is another command, or can't be read.
+pub fn component_of(request: &Request) -> Option<Component> {
+    let (place, length) = given(request.bytes());
+    let mut named = raw::Component { classification: 0, identifier: 0, index: 0 };
+    // SAFETY: `place` has `length` bytes that may be read, and one at least; `named` is borrowed alone.
+    let is_named = unsafe { raw::needleoat_firmware_component(request.command, place, length, &mut named) };
+    let raw::Component { classification, identifier, index } = named;
+    is_named.then_some(Component { classification, identifier, index })
+}
+
 /// The answer to a command of firmware update.
 #[derive(Clone, Copy)]
 pub struct FirmwareAnswer(raw::FirmwareAnswer);
@@ -142,7 +164,8 @@ impl Firmware {
 
     /// Takes a command as it was handed on, pending under this handle, and gives its answer, also to one that can't be
     /// read, and the step of the flash that it brings. `room` is the most bytes that an image of the component of an
-    /// UpdateComponent may have; `None`, or 0, where the device has no such component.
+    /// UpdateComponent may have; `None`, or 0, where the device has no such component; where it has several,
+    /// [`component_of`] says which.
     ///
     /// # Errors
     /// [`Refusal::NothingThere`], else [`Refusal::OutOfRange`] where the source is no endpoint ID, else

@@ -48,7 +48,7 @@ pub use fields::{
     Answer, Command, CommandHandle, EffecterState, EndpointSettings, PeerSettings, Request, RequesterSettings,
     SensorState, SetState, TypeCommand, TypeVersion,
 };
-pub use firmware::{Firmware, FirmwareAnswer, FlashAction, FlashStep, Stage};
+pub use firmware::{component_of, Component, Firmware, FirmwareAnswer, FlashAction, FlashStep, Stage};
 pub use frames::{i2c_read, i2c_write, i3c_read, i3c_write, I2cFrame};
 pub use moment::{Clock, Moment};
 pub use numbers::{

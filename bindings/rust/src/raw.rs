@@ -139,6 +139,15 @@ pub struct FlashStep {
     pub action: u8,
 }
 
+/// What `needleoat_firmware_component` writes.
+#[repr(C)]
+#[derive(Clone, Copy)]
+pub struct Component {
+    pub classification: u16,
+    pub identifier: u16,
+    pub index: u8,
+}
+
 /// What `needleoat_firmware_receive` writes.
 #[repr(C)]
 #[derive(Clone, Copy)]
@@ -343,6 +352,7 @@ extern "C" {
     pub fn needleoat_terminus_free(terminus: *mut Handle);
 
     pub fn needleoat_firmware_new(latest: u64, firmware: *mut Handle) -> u8;
+    pub fn needleoat_firmware_component(command: u8, data: *const u8, length: u64, component: *mut Component) -> bool;
     pub fn needleoat_firmware_receive(
         firmware: *mut Handle,
         source: u8,

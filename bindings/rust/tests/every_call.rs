@@ -78,6 +78,7 @@ fn with_a_safe_call() -> BTreeSet<&'static str> {
         needleoat_terminus_restart => Terminus::restart;
         needleoat_terminus_free => Terminus::free;
         needleoat_firmware_new => Firmware::make;
+        needleoat_firmware_component => needleoat::component_of;
         needleoat_firmware_receive => Firmware::receive;
         needleoat_firmware_wish => Firmware::wish;
         needleoat_firmware_opened => Firmware::opened;
@@ -118,7 +119,7 @@ fn in_source(source: &'static str) -> BTreeSet<&'static str> {
 fn each_function_is_declared_and_called() {
     let code = code();
     let functions = functions(&code);
-    assert_eq!(functions.len(), 70, "the test reads the header: 67 calls and three of memory");
+    assert_eq!(functions.len(), 71, "the test reads the header: 68 calls and three of memory");
     let (memory, calls): (BTreeSet<&str>, BTreeSet<&str>) =
         functions.iter().partition(|name| name.starts_with("rattle_"));
     assert_eq!(calls, with_a_safe_call());

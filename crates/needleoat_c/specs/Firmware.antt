@@ -14,6 +14,7 @@ use Rattle.pldm_update.specs.declared.answer.UpdateAnswer.TheVariants.{Refused}
 use Rattle.pldm_update.specs.declared.assigned.TheConstants.{FIRMWARE_UPDATE}
 use Rattle.pldm_update.specs.declared.command.UpdateCommand.{UpdateCommand}
 use Rattle.pldm_update.specs.declared.command.UpdateCommand.TheVariants as commands
+use Rattle.pldm_update.specs.declared.component.Component.{Component}
 use Rattle.pldm_update.specs.declared.device_stage.DeviceRequest.{DeviceRequest}
 use Rattle.pldm_update.specs.declared.device_stage.DeviceRequest.TheVariants as requests
 use Rattle.pldm_update.specs.declared.device_stage.Stage.{Stage}
@@ -24,6 +25,7 @@ use Rattle.pldm_update.specs.declared.flash.FlashStep.{FlashStep}
 use Rattle.needleoat_forms.specs.Written.{HasFront}
 use Rattle.needleoat_c.specs.declared.firmware.TheConstants.{GENERIC_ERROR}
 use Rattle.needleoat_c.specs.declared.firmware_handle.FirmwareForC.{FirmwareForC}
+use Rattle.needleoat_c.specs.declared.firmware_reports.ComponentFields.{ComponentFields}
 use Rattle.needleoat_c.specs.declared.firmware_reports.FirmwareAnswer.{FirmwareAnswer}
 use Rattle.needleoat_c.specs.declared.firmware_reports.FlashReport.{FlashReport}
 use Rattle.needleoat_c.specs.declared.firmware_reports.StageReport.{StageReport}
@@ -114,6 +116,19 @@ room_in room = if room == 0 then None else Some room
 -- the command that a number and data are, or the completion code by which it is refused
 abbrev pub command_in : ℕ → List ℕ → Result UpdateCommand ℕ
 command_in number bytes = or_code (update_command_of number bytes)
+
+-- the component that a command names: PassComponentTable and UpdateComponent name one
+abbrev pub component_in : Result UpdateCommand ℕ → Option Component
+component_in (Ok (commands.PassComponentTable part component stamp version)) = Some component
+component_in (Ok (commands.UpdateComponent component stamp size options version)) = Some component
+component_in named = None
+
+-- where a command names none, the fields are as before
+abbrev pub HasComponent : Option Component → Bool → ComponentFields → ComponentFields → Type 0
+HasComponent None found old new = (found ≡ false) × (new ≡ old)
+HasComponent (Some c) found old new =
+    (found ≡ true)
+    × (new ≡ record { classification = c.classification; identifier = c.identifier; index = c.index })
 
 module _ (source now room : ℕ) where
   -- its answer: none where the firmware answers it

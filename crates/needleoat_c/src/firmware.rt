@@ -1,11 +1,11 @@
 //! The work of each call on the machine behind a handle.
 
-ghost use Rattle.std.specs.Prelude.{◌≡◌, IfOk, Some, length};
+ghost use Rattle.std.specs.Prelude.{◌≡◌, IfOk, Ok, Some, length};
 ghost use Rattle.pldm_update.specs.DeviceAnswers.{answered, given_up, opened, ticked};
 ghost use Rattle.pldm_update.specs.Machines.{first_machine};
-ghost use Rattle.needleoat_c.specs.Firmware.{AsksCommand, HasAnswer, ReportsRequest, coming_answer, coming_step, command_of, left_at, left_by_coming, refusal_at, report_of, result_of, room_in, stage_number, stage_report, told, told_at, wish_of};
+ghost use Rattle.needleoat_c.specs.Firmware.{AsksCommand, HasAnswer, HasComponent, ReportsRequest, coming_answer, coming_step, command_in, command_of, component_in, left_at, left_by_coming, refusal_at, report_of, result_of, room_in, stage_number, stage_report, told, told_at, wish_of};
 
-use crate::firmware_reports::{FirmwareAnswer, FlashReport, StageReport};
+use crate::firmware_reports::{ComponentFields, FirmwareAnswer, FlashReport, StageReport};
 use crate::kinds::{
     UPDATE_ACTIVATING, UPDATE_APPLIED, UPDATE_APPLYING, UPDATE_BEGINNING, UPDATE_FAILED,
     UPDATE_FETCHED, UPDATE_FETCHING, UPDATE_IDLE, UPDATE_LEARNING, UPDATE_NOT_APPLIED,
@@ -15,8 +15,8 @@ use crate::refusals::{BAD_MOMENT, FIRMWARE_ANSWERS, OUT_OF_RANGE};
 use crate::reports::RequestFields;
 use mctp_packet::{Eid, Memory, Moment};
 use pldm_update::{
-    DeviceRequest, FIRMWARE_UPDATE, FirmwareDevice, FlashStep, Stage, UpdateAnswer, UpdateCommand,
-    read_update_command, update_command_data,
+    Component, DeviceRequest, FIRMWARE_UPDATE, FirmwareDevice, FlashStep, Stage, UpdateAnswer,
+    UpdateCommand, read_update_command, update_command_data,
 };
 use std::alloc::Global;
 
@@ -83,6 +83,35 @@ pub(crate) fn receive(
         }
         None => FlashReport::none(FIRMWARE_ANSWERS),
     }
+}
+
+/// The component that a command names.
+fn component_in(command: &UpdateCommand) -> Option<Component>
+    ensures { result ≡ component_in (Ok command.now) }
+{
+    match command {
+        UpdateCommand::PassComponentTable { component, .. }
+        | UpdateCommand::UpdateComponent { component, .. } => Some(*component),
+        _ => None,
+    }
+}
+
+/// Puts the component that a command names into `fields`, and returns whether it names one.
+pub(crate) fn put_component(command: u8, data: &[u8], fields: &mut ComponentFields) -> bool
+    ensures { HasComponent (component_in (command_in command data.now)) result fields.old fields.new }
+{
+    let Ok(command) = read_update_command(command, data) else {
+        return false;
+    };
+    let Some(component) = component_in(&command) else {
+        return false;
+    };
+    *fields = ComponentFields {
+        classification: component.classification,
+        identifier: component.identifier,
+        index: component.index,
+    };
+    true
 }
 
 /// The result that is told of a success or a fault.

@@ -3,11 +3,11 @@
 ghost use Rattle.std.specs.Prelude.{◌≡◌, ◌≢◌, false, length, option_map, Some};
 ghost use Rattle.pldm_update.specs.DeviceAnswers.{answered, done, given_up, opened, ticked};
 ghost use Rattle.pldm_update.specs.Machines.{first_machine};
-ghost use Rattle.needleoat_c.specs.Firmware.{HasAnswer, IsUpheld, ReportsMaking, ReportsRequest, coming_answer, coming_step, left_at, left_by_coming, refusal_at, stage_report, told, told_at, wish_of};
+ghost use Rattle.needleoat_c.specs.Firmware.{HasAnswer, HasComponent, IsUpheld, ReportsMaking, ReportsRequest, coming_answer, coming_step, command_in, component_in, left_at, left_by_coming, refusal_at, stage_report, told, told_at, wish_of};
 
 use crate::firmware;
 use crate::firmware_handle::FirmwareForC;
-use crate::firmware_reports::{FirmwareAnswer, FlashReport, StageReport};
+use crate::firmware_reports::{ComponentFields, FirmwareAnswer, FlashReport, StageReport};
 use crate::kinds::UPDATE_NONE;
 use crate::refusals::{ALREADY_THERE, NO_MEMORY, NOTHING_THERE};
 use crate::reports::RequestFields;
@@ -38,6 +38,20 @@ pub extern "C" fn needleoat_firmware_new(
         }
         Err(_) => NO_MEMORY,
     }
+}
+
+/// Puts the component that a command of firmware update names, by its number and its data, into `component`, and returns
+/// true: PassComponentTable and UpdateComponent name one. False, with `component` as it was, where it is another command
+/// or can't be read.
+#[unsafe(no_mangle)]
+pub extern "C" fn needleoat_firmware_component(
+    command: u8,
+    data: &[u8],
+    component: &mut ComponentFields,
+) -> bool
+    ensures { HasComponent (component_in (command_in command data.now)) result component.old component.new }
+{
+    firmware::put_component(command, data, component)
 }
 
 /// Takes a command of firmware update as it was handed on: its number and its data, from this endpoint. `room` is the

@@ -77,6 +77,21 @@ impl FlashReport {
     }
 }
 
+/// Which component of a device is meant.
+#[repr(C)]
+#[derive(Drop)]
+pub struct ComponentFields {
+    /// Its classification.
+    pub classification: u16,
+    /// Its identifier, which the vendor chooses.
+    pub identifier: u16,
+    /// Which of several components with this classification and identifier it is.
+    pub index: u8,
+}
+
+// As in `include/needleoat.h`.
+const _: () = prove!(size_of::<ComponentFields>() == 6);
+
 /// The answer to a command of firmware update.
 #[repr(C)]
 #[derive(Drop)]

@@ -28,13 +28,13 @@ pub use endpoint_calls::{
 };
 pub use endpoint_handle::{EndpointForC, EndpointHandle, HiddenEndpoint};
 pub use firmware_calls::{
-    needleoat_firmware_answered, needleoat_firmware_done, needleoat_firmware_free,
-    needleoat_firmware_gave_up, needleoat_firmware_new, needleoat_firmware_opened,
-    needleoat_firmware_receive, needleoat_firmware_stage, needleoat_firmware_tick,
-    needleoat_firmware_wish,
+    needleoat_firmware_answered, needleoat_firmware_component, needleoat_firmware_done,
+    needleoat_firmware_free, needleoat_firmware_gave_up, needleoat_firmware_new,
+    needleoat_firmware_opened, needleoat_firmware_receive, needleoat_firmware_stage,
+    needleoat_firmware_tick, needleoat_firmware_wish,
 };
 pub use firmware_handle::{FirmwareForC, FirmwareHandle, HiddenFirmware};
-pub use firmware_reports::{FirmwareAnswer, FlashReport, StageReport};
+pub use firmware_reports::{ComponentFields, FirmwareAnswer, FlashReport, StageReport};
 pub use reports::{
     ComingReport, DueReport, HandleFields, OpeningReport, PacketReport, RequestFields,
     StatusReport, StepReport,
