@@ -13,8 +13,8 @@ use crate::refusals::{ALREADY_THERE, NO_MEMORY, NOTHING_THERE};
 use crate::reports::RequestFields;
 use std::alloc::Global;
 
-/// Makes the machine of a firmware device with no update under way, as it is after each restart: 0, or why not. Steps of
-/// the flash have numbers after `latest`.
+/// Makes the machine of a firmware device with no update under way, as it is after each restart: 0, or why not. Steps
+/// of the flash have numbers after `latest`.
 #[unsafe(no_mangle)]
 pub extern "C" fn needleoat_firmware_new(
     alloc: Global,
@@ -40,9 +40,9 @@ pub extern "C" fn needleoat_firmware_new(
     }
 }
 
-/// Puts the component that a command of firmware update names, by its number and its data, into `component`, and returns
-/// true: PassComponentTable and UpdateComponent name one. False, with `component` as it was, where it is another command
-/// or can't be read.
+/// Puts the component that a command of firmware update names, by its number and its data, into `component`, and
+/// returns true: PassComponentTable and UpdateComponent name one. False, with `component` as it was, where it is
+/// another command or can't be read.
 #[unsafe(no_mangle)]
 pub extern "C" fn needleoat_firmware_component(
     command: u8,
@@ -56,8 +56,8 @@ pub extern "C" fn needleoat_firmware_component(
 
 /// Takes a command of firmware update as it was handed on: its number and its data, from this endpoint. `room` is the
 /// most bytes that an image of the component of an UpdateComponent may have, 0 where the device has no such component.
-/// The answer is put into `answer`, also that to a command that can't be read; the step of the flash that comes of it is
-/// returned. Where the call is refused, `answer` stays as it was, and so does the machine.
+/// The answer is put into `answer`, also that to a command that can't be read; the step of the flash that comes of it
+/// is returned. Where the call is refused, `answer` stays as it was, and so does the machine.
 #[unsafe(no_mangle)]
 pub extern "C" fn needleoat_firmware_receive(
     alloc: Global,
@@ -86,8 +86,8 @@ pub extern "C" fn needleoat_firmware_receive(
     step
 }
 
-/// Puts what the device asks of the update agent at a moment into `request`, and returns whether it asks something. Where
-/// it does not, `request` stays as it was.
+/// Puts what the device asks of the update agent at a moment into `request`, and returns whether it asks something.
+/// Where it does not, `request` stays as it was.
 #[unsafe(no_mangle)]
 pub extern "C" fn needleoat_firmware_wish(
     alloc: Global,
@@ -109,8 +109,8 @@ pub extern "C" fn needleoat_firmware_wish(
     asks
 }
 
-/// What [`needleoat_firmware_wish`] puts at this moment was opened, under this number of its requester: 0, or why the call
-/// was refused. Where nothing is asked, nothing changes.
+/// What [`needleoat_firmware_wish`] puts at this moment was opened, under this number of its requester: 0, or why the
+/// call was refused. Where nothing is asked, nothing changes.
 #[unsafe(no_mangle)]
 pub extern "C" fn needleoat_firmware_opened(
     alloc: Global,
@@ -134,8 +134,8 @@ pub extern "C" fn needleoat_firmware_opened(
 }
 
 /// The request with this number was answered, by this completion code and this data. Returns the step of the flash that
-/// comes of it; the bytes of a piece that is to be stored are this data. An answer to any other request than the open one
-/// changes nothing.
+/// comes of it; the bytes of a piece that is to be stored are this data. An answer to any other request than the open
+/// one changes nothing.
 #[unsafe(no_mangle)]
 pub extern "C" fn needleoat_firmware_answered(
     alloc: Global,
@@ -161,8 +161,8 @@ pub extern "C" fn needleoat_firmware_answered(
     step
 }
 
-/// The request with this number was given up by its requester. Returns the step of the flash that comes of it. Any other
-/// request than the open one changes nothing.
+/// The request with this number was given up by its requester. Returns the step of the flash that comes of it. Any
+/// other request than the open one changes nothing.
 #[unsafe(no_mangle)]
 pub extern "C" fn needleoat_firmware_gave_up(
     alloc: Global,

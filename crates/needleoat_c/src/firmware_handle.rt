@@ -9,8 +9,8 @@ use std::alloc::Global;
 use std::marker::Model;
 use std::{mem, ptr};
 
-/// The handle of a firmware device's machine, as C holds it. It begins with all bytes 0; C reads and writes no field and
-/// uses no copy.
+/// The handle of a firmware device's machine, as C holds it. It begins with all bytes 0; C reads and writes no field
+/// and uses no copy.
 #[repr(C)]
 #[derive(Drop)]
 pub struct FirmwareForC {
