@@ -1223,7 +1223,7 @@ void needleoat_terminus_free(struct needleoat_terminus *terminus);
  *
  * A number of a request must not come twice. Those of a terminus begin anew at a restart and where it gets another
  * endpoint ID: then, as after a reset of the processor, free the machine and make it anew. What was stored and not
- * activated counts for nothing from then on.
+ * activated counts for nothing from then on. Of moments the machine refuses those past the last one alone.
  */
 struct needleoat_firmware {
     uint64_t at; /* an address */

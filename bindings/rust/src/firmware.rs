@@ -122,8 +122,8 @@ pub struct Stage {
 /// [`Firmware::wish`], and what the flash is to do is returned. It goes with a [`Terminus`](crate::Terminus) that hands
 /// on requests of firmware update.
 ///
-/// A number of a request must not come twice. Those of a terminus begin anew at a restart and where it gets another
-/// endpoint ID: then free the machine and make it anew.
+/// Moments are not compared with those of earlier calls. A number of a request must not come twice: those of a terminus
+/// begin anew at a restart and where it gets another endpoint ID, so free the machine then, and make it anew.
 ///
 /// It is freed on drop. One that is forgotten ([`core::mem::forget`]) leaks its memory.
 ///
