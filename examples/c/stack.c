@@ -215,6 +215,11 @@ static void update_component(void) {
     static const uint8_t data[] = {10, 0, 1, 0, 0, 0, 0, 0, 0, 300 % 256, 300 / 256, 0, 0, 0, 0, 0, 0, 1, 0};
     update_command(0x14, data, sizeof data);
 }
+static void firmware_component(void) {
+    static const uint8_t data[FIRMWARE_DATA + 1] = {5, 10, 0, 1, 0, 0, 0, 0, 0, 0, 1, 255};
+    static struct needleoat_component named;
+    needleoat_firmware_component(0x13, data, sizeof data, &named);
+}
 static void firmware_done(void) { needleoat_firmware_done(&machine, flash_number, true); }
 static void firmware_wish(void) { needleoat_firmware_wish(&machine, 0, &wish); }
 static void firmware_opened(void) { needleoat_firmware_opened(&machine, 0, 0); }
@@ -263,7 +268,8 @@ static const struct {
     {"needleoat_firmware_new", firmware_new}, {"needleoat_firmware_receive, RequestUpdate", request_update},
     {"needleoat_firmware_receive, PassComponentTable", pass_component},
     {"needleoat_firmware_receive, UpdateComponent", update_component},
-    {"needleoat_firmware_done", firmware_done}, {"needleoat_firmware_wish", firmware_wish},
+    {"needleoat_firmware_component", firmware_component}, {"needleoat_firmware_done", firmware_done},
+    {"needleoat_firmware_wish", firmware_wish},
     {"needleoat_firmware_opened", firmware_opened}, {"needleoat_firmware_gave_up", firmware_gave_up},
     {"needleoat_firmware_opened, once more", firmware_opened},
     {"needleoat_firmware_answered", firmware_answered}, {"needleoat_firmware_tick", firmware_tick},
