@@ -324,6 +324,7 @@ int main(void) {
     bool well = print_steps();
     well = print_control() && well;
     well = print_windows() && well;
+    well = firmware_takes_little() && well;
     for (size_t i = 0; i < sizeof loads / sizeof loads[0]; i++) {
         well = is_within(&loads[i], false, i == 0 ? SMALL_MOST : bound_of(&loads[i], false)) && well;
         well = is_within(&loads[i], true, bound_of(&loads[i], true)) && well;
@@ -331,6 +332,5 @@ int main(void) {
     well = takes_only_there() && well;
     well = restart_gives_back() && well;
     well = requester_takes_32() && well;
-    well = firmware_takes_little() && well;
     return !well || in_use != 0;
 }
