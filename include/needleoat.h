@@ -19,10 +19,10 @@
  *
  * With the two ends of libneedleoat_c.a also:
  *
- *   - A handle begins as NEEDLEOAT_ENDPOINT_NONE, NEEDLEOAT_REQUESTER_NONE or NEEDLEOAT_TERMINUS_NONE. The
- *     caller reads and writes no field of it and uses no copy of it; it may stand anywhere, and may be moved
- *     between two calls. One that is forgotten leaks: end with needleoat_endpoint_free,
- *     needleoat_requester_free or needleoat_terminus_free.
+ *   - A handle begins as NEEDLEOAT_ENDPOINT_NONE, NEEDLEOAT_REQUESTER_NONE, NEEDLEOAT_TERMINUS_NONE or
+ *     NEEDLEOAT_FIRMWARE_NONE. The caller reads and writes no field of it and uses no copy of it; it may stand
+ *     anywhere, and may be moved between two calls. One that is forgotten leaks: end with needleoat_endpoint_free,
+ *     needleoat_requester_free, needleoat_terminus_free or needleoat_firmware_free.
  *   - One call at a time with one handle. No call from a signal or interrupt handler, nor in the
  *     child of a fork of a process with threads.
  *   - Moments are milliseconds of one clock that never goes back, at most 4,000,000,000,000,000. A
@@ -734,7 +734,8 @@ enum needleoat_refusal {
     NEEDLEOAT_TOO_MANY_SOURCES = 14, /* of a packet: as many sources have room for answers as may have */
     NEEDLEOAT_TOO_MANY_OPEN_MESSAGES = 15, /* of a packet: it begins a message of several, and none may be open */
     NEEDLEOAT_NO_EID = 16,           /* of a terminus: it has no endpoint ID to ask from, or that of its peer */
-    NEEDLEOAT_RESTING = 17           /* of a terminus: it began to ask less than twice keep_ms ago */
+    NEEDLEOAT_RESTING = 17,          /* of a terminus: it began to ask less than twice keep_ms ago */
+    NEEDLEOAT_FIRMWARE_ANSWERS = 18  /* of a command of firmware update: the firmware itself answers it */
 };
 
 /* ---- The answering end ----
@@ -1210,6 +1211,165 @@ uint8_t needleoat_terminus_restart(struct needleoat_terminus *terminus, uint64_t
 /* Frees the terminus, where there is one. The handle is then as NEEDLEOAT_TERMINUS_NONE. */
 void needleoat_terminus_free(struct needleoat_terminus *terminus);
 
+/* ---- Firmware update: the device ----
+ *
+ * The machine of a firmware device takes the commands of one update agent (DSP0267), asks it for the image piece by
+ * piece, and says what the flash is to do. It has no input or output of its own, and goes with a terminus whose
+ * `pldm_types` have the bit of NEEDLEOAT_FIRMWARE_UPDATE:
+ *
+ *   - NEEDLEOAT_STEP_RESPOND: needleoat_terminus_request has the command, needleoat_firmware_receive its answer, which
+ *     needleoat_terminus_answer_bytes sends.
+ *   - At each turn: needleoat_firmware_tick, then needleoat_firmware_wish. Where it asks, open the request by
+ *     needleoat_terminus_open_request, and say so by needleoat_firmware_opened.
+ *   - NEEDLEOAT_RECEIVING_ANSWERED: needleoat_firmware_answered. Of each that needleoat_terminus_tick lists in
+ *     `given_up`: needleoat_firmware_gave_up.
+ *   - A call that brings a step of the flash returns it. Do it, then needleoat_firmware_done, at once or later. Steps
+ *     are done in the order in which they come.
+ *
+ * A number of a request must not come twice. Those of a terminus begin anew at a restart and where it gets another
+ * endpoint ID: then, as after a reset of the processor, free the machine and make it anew. What was stored and not
+ * activated counts for nothing from then on. Of moments the machine refuses those past the last one alone.
+ */
+struct needleoat_firmware {
+    uint64_t at; /* an address */
+    bool is_live;
+};
+#define NEEDLEOAT_FIRMWARE_NONE {0, false}
+
+enum {
+    NEEDLEOAT_FIRMWARE_UPDATE = 5,       /* the PLDM type of firmware update */
+    NEEDLEOAT_FIRMWARE_ANSWER_DATA = 315 /* the most bytes of the data of an answer */
+};
+
+/* What the flash is to do. The image that is active stays as it is until NEEDLEOAT_FLASH_ACTIVATE. */
+enum needleoat_flash {
+    NEEDLEOAT_FLASH_NONE = 0,          /* nothing: there is no step */
+    NEEDLEOAT_FLASH_BEGIN = 1,         /* make room for an image of `size` bytes, beside the active one */
+    NEEDLEOAT_FLASH_STORE = 2,         /* store the data of the answer that has just come from `offset` on */
+    NEEDLEOAT_FLASH_VERIFY = 3,        /* verify the stored image */
+    NEEDLEOAT_FLASH_APPLY = 4,         /* apply the verified image: at the next activation it is the active one */
+    NEEDLEOAT_FLASH_ACTIVATE = 5,      /* make all that was applied active */
+    NEEDLEOAT_FLASH_ABANDON = 6,       /* forget the image that was begun last, and nothing that was applied before */
+    NEEDLEOAT_FLASH_ABANDON_UPDATE = 7 /* forget all that is not active */
+};
+
+/* A step of the flash. Where `refusal` is not 0, nothing changed, and there is no step. */
+struct needleoat_flash_step {
+    uint64_t number; /* by which needleoat_firmware_done is told of it */
+    uint32_t size;   /* BEGIN: the image's size in bytes; else 0 */
+    uint32_t offset; /* STORE: where in the image the bytes begin; else 0 */
+    uint8_t refusal; /* 0, or enum needleoat_refusal: 3; of a call at a moment also 2 */
+    uint8_t action;  /* enum needleoat_flash */
+};
+
+/* The answer to a command of firmware update. */
+struct needleoat_firmware_answer {
+    uint8_t code;    /* its completion code */
+    uint32_t length; /* how many bytes of data follow the code */
+    uint8_t data[NEEDLEOAT_FIRMWARE_ANSWER_DATA]; /* its data: the first of these. What follows is as it was */
+};
+
+/* Where a firmware device is in an update. */
+enum needleoat_update_stage {
+    NEEDLEOAT_UPDATE_NONE = 0,          /* there is no machine */
+    NEEDLEOAT_UPDATE_IDLE = 1,          /* no update is under way */
+    NEEDLEOAT_UPDATE_LEARNING = 2,      /* the agent passes the table of components */
+    NEEDLEOAT_UPDATE_READY = 3,         /* the table has been passed; no component is transferred */
+    NEEDLEOAT_UPDATE_BEGINNING = 4,     /* the flash makes room for the image */
+    NEEDLEOAT_UPDATE_FETCHING = 5,      /* the next piece of the image is asked for */
+    NEEDLEOAT_UPDATE_STORING = 6,       /* the flash stores a piece */
+    NEEDLEOAT_UPDATE_FETCHED = 7,       /* the whole image is stored, and the agent is told so */
+    NEEDLEOAT_UPDATE_FAILED = 8,        /* the transfer failed, and the agent is told so */
+    NEEDLEOAT_UPDATE_VERIFYING = 9,     /* the flash verifies the image */
+    NEEDLEOAT_UPDATE_VERIFIED = 10,     /* the agent is told that the image is good */
+    NEEDLEOAT_UPDATE_NOT_VERIFIED = 11, /* the agent is told that it is not */
+    NEEDLEOAT_UPDATE_APPLYING = 12,     /* the flash applies the image */
+    NEEDLEOAT_UPDATE_APPLIED = 13,      /* the agent is told that the image was applied */
+    NEEDLEOAT_UPDATE_NOT_APPLIED = 14,  /* the agent is told that it was not */
+    NEEDLEOAT_UPDATE_ACTIVATING = 15    /* the flash activates what was applied */
+};
+
+struct needleoat_stage {
+    uint8_t stage;   /* enum needleoat_update_stage */
+    uint32_t stored; /* how many bytes of the image are stored */
+};
+
+/*
+ * Makes a machine with no update under way, as it is after each restart: 0, or enum needleoat_refusal: 7, else 1. Steps
+ * of the flash have the numbers after `latest`: after a reset of the processor let that be the last one before, where a
+ * report of a step from before may still come, else 0. No other call takes memory.
+ */
+uint8_t needleoat_firmware_new(uint64_t latest, struct needleoat_firmware *firmware);
+
+/* Which component of a device is meant (DSP0267, "PassComponentTable command"). */
+struct needleoat_component {
+    uint16_t classification;
+    uint16_t identifier; /* the vendor's */
+    uint8_t index;       /* which of several with this classification and identifier */
+};
+
+/*
+ * Puts the component that a command of firmware update names into `component`, and returns true: PassComponentTable and
+ * UpdateComponent name one. False, with `component` as it was, where it is another command or can't be read.
+ */
+bool needleoat_firmware_component(uint8_t command, const uint8_t *data, uint64_t length,
+                                  struct needleoat_component *component);
+
+/*
+ * Takes a command of PLDM type NEEDLEOAT_FIRMWARE_UPDATE as it was handed on, `command` and `length` bytes of data,
+ * from the endpoint `source`, and puts the answer into `answer`; also that to a command that can't be read, or is
+ * refused: a completion code and no data. `room` is the most bytes that an image of the component of an UpdateComponent
+ * may have, 0 where the device has no such component; where it has several, needleoat_firmware_component says which.
+ *
+ * The call is refused, with `answer` as it was, with the first of 3, 6 (`source` is no endpoint ID), 2, and 18: the
+ * firmware itself has to answer QueryDeviceIdentifiers and GetFirmwareParameters.
+ */
+struct needleoat_flash_step needleoat_firmware_receive(struct needleoat_firmware *firmware, uint8_t source,
+                                                       uint64_t now_ms, uint8_t command, const uint8_t *data,
+                                                       uint64_t length, uint32_t room,
+                                                       struct needleoat_firmware_answer *answer);
+
+/*
+ * Whether the device asks something of the update agent at this moment: then it is put into `request`, with its PLDM
+ * type. False, with `request` as it was, while a request of it is open, for a second after one that was not answered as
+ * it has to be, where the agent or the flash has the next move, and where there is no machine or the moment is past the
+ * last one.
+ */
+bool needleoat_firmware_wish(struct needleoat_firmware *firmware, uint64_t now_ms, struct needleoat_request *request);
+
+/*
+ * What needleoat_firmware_wish asks at this moment was opened, as the request with this number: 0, or enum
+ * needleoat_refusal: 3 or 2. Where nothing is asked, nothing changes.
+ */
+uint8_t needleoat_firmware_opened(struct needleoat_firmware *firmware, uint64_t number, uint64_t now_ms);
+
+/*
+ * The request with this number was answered, by this completion code and `length` bytes of data, which begin at byte 5
+ * of the response. Where it brings NEEDLEOAT_FLASH_STORE, these bytes are to be stored, all of them. An answer to any
+ * other request than the open one changes nothing.
+ */
+struct needleoat_flash_step needleoat_firmware_answered(struct needleoat_firmware *firmware, uint64_t number,
+                                                        uint64_t now_ms, uint8_t code, const uint8_t *data,
+                                                        uint64_t length);
+
+/* The request with this number was given up. Any other than the open one changes nothing. */
+struct needleoat_flash_step needleoat_firmware_gave_up(struct needleoat_firmware *firmware, uint64_t number);
+
+/* The flash did the step with this number, well or not. A report of any step but the last one changes nothing. */
+void needleoat_firmware_done(struct needleoat_firmware *firmware, uint64_t number, bool well);
+
+/*
+ * Time passes: where the agent has the next move and was not heard for 90 seconds, the update ends, and the flash has
+ * to forget it.
+ */
+struct needleoat_flash_step needleoat_firmware_tick(struct needleoat_firmware *firmware, uint64_t now_ms);
+
+/* Where the device is in the update. */
+struct needleoat_stage needleoat_firmware_stage(struct needleoat_firmware *firmware);
+
+/* Frees the machine, where there is one. The handle is then as NEEDLEOAT_FIRMWARE_NONE. */
+void needleoat_firmware_free(struct needleoat_firmware *firmware);
+
 /*
  * The memory that the library asks for; the head of this file says what these functions have to keep. `size`
  * may be 0, and it may be more than a size_t holds: such a block is refused. A block is aligned to `align`, a
@@ -1537,6 +1697,26 @@ NEEDLEOAT_ASSERT(sizeof(struct needleoat_coming) == 72);
 NEEDLEOAT_AT(needleoat_coming, half, 0);
 NEEDLEOAT_AT(needleoat_coming, step, 8);
 NEEDLEOAT_AT(needleoat_coming, receiving, 56);
+NEEDLEOAT_ASSERT(sizeof(struct needleoat_firmware) == 16);
+NEEDLEOAT_AT(needleoat_firmware, at, 0);
+NEEDLEOAT_AT(needleoat_firmware, is_live, 8);
+NEEDLEOAT_ASSERT(sizeof(struct needleoat_flash_step) == 24);
+NEEDLEOAT_AT(needleoat_flash_step, number, 0);
+NEEDLEOAT_AT(needleoat_flash_step, size, 8);
+NEEDLEOAT_AT(needleoat_flash_step, offset, 12);
+NEEDLEOAT_AT(needleoat_flash_step, refusal, 16);
+NEEDLEOAT_AT(needleoat_flash_step, action, 17);
+NEEDLEOAT_ASSERT(sizeof(struct needleoat_component) == 6);
+NEEDLEOAT_AT(needleoat_component, classification, 0);
+NEEDLEOAT_AT(needleoat_component, identifier, 2);
+NEEDLEOAT_AT(needleoat_component, index, 4);
+NEEDLEOAT_ASSERT(sizeof(struct needleoat_firmware_answer) == 324);
+NEEDLEOAT_AT(needleoat_firmware_answer, code, 0);
+NEEDLEOAT_AT(needleoat_firmware_answer, length, 4);
+NEEDLEOAT_AT(needleoat_firmware_answer, data, 8);
+NEEDLEOAT_ASSERT(sizeof(struct needleoat_stage) == 8);
+NEEDLEOAT_AT(needleoat_stage, stage, 0);
+NEEDLEOAT_AT(needleoat_stage, stored, 4);
 NEEDLEOAT_ASSERT(sizeof(struct needleoat_block) == 16);
 NEEDLEOAT_AT(needleoat_block, is_there, 0);
 NEEDLEOAT_AT(needleoat_block, at, 8);

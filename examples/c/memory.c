@@ -277,6 +277,24 @@ static bool requester_takes_32(bool brief) {
     return well && in_use == 0;
 }
 
+/* What the machine of firmware update takes at most. Only the call that makes it asks for memory. */
+enum { FIRMWARE_MOST = 80 };
+
+static bool firmware_takes_little(void) {
+    static const uint8_t data[] = {0, 1, 0, 0, 1, 0, 1, 0, 0, 1, 0};
+    struct needleoat_firmware machine = NEEDLEOAT_FIRMWARE_NONE;
+    struct needleoat_firmware_answer answer;
+    bool well = needleoat_firmware_new(0, &machine) == 0;
+    size_t taken = in_use;
+    printf("heap of the machine of firmware update %zu\n", taken);
+    looked_at = growths;
+    well = needleoat_firmware_receive(&machine, 8, 0, 0x10, data, sizeof data, 1, &answer).refusal == 0 && well;
+    well = needleoat_firmware_tick(&machine, 90000).action == NEEDLEOAT_FLASH_ABANDON_UPDATE && well;
+    well = asked_for_none("a command of firmware update", well) && taken <= FIRMWARE_MOST;
+    needleoat_firmware_free(&machine);
+    return well && in_use == 0;
+}
+
 /* Prints what a source with answers takes, by the window. */
 static bool print_windows(void) {
     static const uint32_t windows[] = {1, 2, 4, 8, 16, 32};
@@ -314,6 +332,7 @@ int main(void) {
     bool well = print_steps();
     well = print_control() && well;
     well = print_windows() && well;
+    well = firmware_takes_little() && well;
     for (size_t i = 0; i < sizeof loads / sizeof loads[0]; i++) {
         well = is_within(&loads[i], false, i == 0 ? SMALL_MOST : bound_of(&loads[i], false)) && well;
         well = is_within(&loads[i], true, bound_of(&loads[i], true)) && well;

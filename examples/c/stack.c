@@ -192,6 +192,43 @@ static void receive_last(void) { receive_packet(4); }
 static void requester_status(void) { needleoat_requester_status(&requester, 0, response); }
 static void requester_free(void) { needleoat_requester_free(&requester); }
 
+/* The machine of firmware update: an image of 300 bytes, and its first piece. The version has the most bytes. */
+enum { FIRMWARE_DATA = 11 + 255 };
+static struct needleoat_firmware machine = NEEDLEOAT_FIRMWARE_NONE;
+static struct needleoat_firmware_answer update_answer;
+static struct needleoat_request wish;
+static uint64_t flash_number;
+
+static void update_command(uint8_t number, const uint8_t *data, size_t length) {
+    flash_number = needleoat_firmware_receive(&machine, 8, 0, number, data, length, 300, &update_answer).number;
+}
+static void firmware_new(void) { needleoat_firmware_new(0, &machine); }
+static void request_update(void) {
+    static const uint8_t data[FIRMWARE_DATA] = {0, 1, 0, 0, 1, 0, 1, 0, 0, 1, 255};
+    update_command(0x10, data, sizeof data);
+}
+static void pass_component(void) {
+    static const uint8_t data[] = {5, 10, 0, 1, 0, 0, 0, 0, 0, 0, 1, 0};
+    update_command(0x13, data, sizeof data);
+}
+static void update_component(void) {
+    static const uint8_t data[] = {10, 0, 1, 0, 0, 0, 0, 0, 0, 300 % 256, 300 / 256, 0, 0, 0, 0, 0, 0, 1, 0};
+    update_command(0x14, data, sizeof data);
+}
+static void firmware_component(void) {
+    static const uint8_t data[FIRMWARE_DATA + 1] = {5, 10, 0, 1, 0, 0, 0, 0, 0, 0, 1, 255};
+    static struct needleoat_component named;
+    needleoat_firmware_component(0x13, data, sizeof data, &named);
+}
+static void firmware_done(void) { needleoat_firmware_done(&machine, flash_number, true); }
+static void firmware_wish(void) { needleoat_firmware_wish(&machine, 0, &wish); }
+static void firmware_opened(void) { needleoat_firmware_opened(&machine, 0, 0); }
+static void firmware_answered(void) { needleoat_firmware_answered(&machine, 0, 0, 0, response, 256); }
+static void firmware_gave_up(void) { needleoat_firmware_gave_up(&machine, 0); }
+static void firmware_tick(void) { needleoat_firmware_tick(&machine, 0); }
+static void firmware_stage(void) { needleoat_firmware_stage(&machine); }
+static void firmware_free(void) { needleoat_firmware_free(&machine); }
+
 static const struct {
     const char *name;
     void (*function)(void);
@@ -228,6 +265,15 @@ static const struct {
     {"needleoat_requester_receive, middle packets", receive_middle},
     {"needleoat_requester_receive, last packet", receive_last},
     {"needleoat_requester_status", requester_status}, {"needleoat_requester_free", requester_free},
+    {"needleoat_firmware_new", firmware_new}, {"needleoat_firmware_receive, RequestUpdate", request_update},
+    {"needleoat_firmware_receive, PassComponentTable", pass_component},
+    {"needleoat_firmware_receive, UpdateComponent", update_component},
+    {"needleoat_firmware_component", firmware_component}, {"needleoat_firmware_done", firmware_done},
+    {"needleoat_firmware_wish", firmware_wish},
+    {"needleoat_firmware_opened", firmware_opened}, {"needleoat_firmware_gave_up", firmware_gave_up},
+    {"needleoat_firmware_opened, once more", firmware_opened},
+    {"needleoat_firmware_answered", firmware_answered}, {"needleoat_firmware_tick", firmware_tick},
+    {"needleoat_firmware_stage", firmware_stage}, {"needleoat_firmware_free", firmware_free},
 };
 
 int main(void) {

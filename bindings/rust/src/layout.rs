@@ -4,7 +4,8 @@ use core::mem::{offset_of, size_of};
 
 use crate::fields::*;
 use crate::raw::{
-    Block, Coming, CommandReading, Due, Handle, I2cFrame, I3cFrame, Message, Opening, Packet, Receiving, Status, Step,
+    Block, Coming, CommandReading, Component, Due, FirmwareAnswer, FlashStep, Handle, I2cFrame, I3cFrame, Message,
+    Opening, Packet, Receiving, Stage, Status, Step,
 };
 use crate::record_fields::*;
 
@@ -148,6 +149,18 @@ layout! {
     }
     Coming 72 {
         half 0, step 8, receiving 56,
+    }
+    FlashStep 24 {
+        number 0, size 8, offset 12, refusal 16, action 17,
+    }
+    Component 6 {
+        classification 0, identifier 2, index 4,
+    }
+    FirmwareAnswer 324 {
+        code 0, length 4, data 8,
+    }
+    Stage 8 {
+        stage 0, stored 4,
     }
     Block 16 {
         is_there 0, at 8,

@@ -26,6 +26,7 @@ extern crate alloc;
 mod codecs;
 mod endpoint;
 mod fields;
+mod firmware;
 mod frames;
 mod layout;
 #[cfg(feature = "alloc")]
@@ -47,10 +48,12 @@ pub use fields::{
     Answer, Command, CommandHandle, EffecterState, EndpointSettings, PeerSettings, Request, RequesterSettings,
     SensorState, SetState, TypeCommand, TypeVersion,
 };
+pub use firmware::{component_of, Component, Firmware, FirmwareAnswer, FlashAction, FlashStep, Stage};
 pub use frames::{i2c_read, i2c_write, i3c_read, i3c_write, I2cFrame};
 pub use moment::{Clock, Moment};
 pub use numbers::{
     bounds, busy, command, completion_code, data_size, AnswerFault, I2cFault, I3cFault, Reason, RecordsFault, Refusal,
+    UpdateStage,
 };
 pub use record_fields::{
     Conversion, EffecterName, EffecterRange, Entity, EntityName, NumericEffecter, NumericSensor, PossibleStates,

@@ -60,6 +60,8 @@ pub mod command {
     pub const GET_PDR_REPOSITORY_INFO: u8 = 0x50;
     /// GetPDR.
     pub const GET_PDR: u8 = 0x51;
+    /// The PLDM type of firmware update.
+    pub const FIRMWARE_UPDATE: u8 = 5;
 }
 
 /// Data sizes of numeric sensors and effecters, and the formats of ranges (DSP0248).
@@ -303,6 +305,46 @@ numbers! {
         NoEid = 16,
         /// Of a terminus: it began to ask less than twice the keeping time ago.
         Resting = 17,
+        /// Of a command of firmware update: the firmware itself answers it.
+        FirmwareAnswers = 18,
+    }
+}
+
+numbers! {
+    /// Where a firmware device is in an update (`enum needleoat_update_stage`).
+    UpdateStage {
+        /// There is no machine.
+        None = 0,
+        /// No update is under way.
+        Idle = 1,
+        /// The agent passes the table of components.
+        Learning = 2,
+        /// The table has been passed; no component is transferred.
+        Ready = 3,
+        /// The flash makes room for the image.
+        Beginning = 4,
+        /// The next piece of the image is asked for.
+        Fetching = 5,
+        /// The flash stores a piece.
+        Storing = 6,
+        /// The whole image is stored, and the agent is told so.
+        Fetched = 7,
+        /// The transfer failed, and the agent is told so.
+        Failed = 8,
+        /// The flash verifies the image.
+        Verifying = 9,
+        /// The agent is told that the image is good.
+        Verified = 10,
+        /// The agent is told that it is not.
+        NotVerified = 11,
+        /// The flash applies the image.
+        Applying = 12,
+        /// The agent is told that the image was applied.
+        Applied = 13,
+        /// The agent is told that it was not.
+        NotApplied = 14,
+        /// The flash activates what was applied.
+        Activating = 15,
     }
 }
 

@@ -4,7 +4,7 @@ use crate::fields::{
     Answer, Command, CommandHandle, EndpointSettings, PeerSettings, Request, RequesterSettings, TypeCommand,
     TypeVersion,
 };
-use crate::numbers::bounds::{PACKETS, PACKET_BYTES};
+use crate::numbers::bounds::{PACKETS, PACKET_BYTES, RESPONSE_DATA};
 use crate::record_fields::{
     EffecterName, EntityName, NumericEffecter, NumericSensor, SensorName, StateEffecter, StateSensor, TerminusLocator,
 };
@@ -62,7 +62,7 @@ pub struct I3cFrame {
     pub packet_length: u32,
 }
 
-/// A handle, of an endpoint or of a requester: both are alike.
+/// A handle, of an end or of the machine of firmware update: all are alike.
 #[repr(C)]
 pub struct Handle {
     pub at: u64,
@@ -126,6 +126,43 @@ pub struct Coming {
     pub half: u8,
     pub step: Step,
     pub receiving: Receiving,
+}
+
+/// A step of the flash, or none.
+#[repr(C)]
+#[derive(Clone, Copy)]
+pub struct FlashStep {
+    pub number: u64,
+    pub size: u32,
+    pub offset: u32,
+    pub refusal: u8,
+    pub action: u8,
+}
+
+/// What `needleoat_firmware_component` writes.
+#[repr(C)]
+#[derive(Clone, Copy)]
+pub struct Component {
+    pub classification: u16,
+    pub identifier: u16,
+    pub index: u8,
+}
+
+/// What `needleoat_firmware_receive` writes.
+#[repr(C)]
+#[derive(Clone, Copy)]
+pub struct FirmwareAnswer {
+    pub code: u8,
+    pub length: u32,
+    pub data: [u8; RESPONSE_DATA],
+}
+
+/// What `needleoat_firmware_stage` returns.
+#[repr(C)]
+#[derive(Clone, Copy)]
+pub struct Stage {
+    pub stage: u8,
+    pub stored: u32,
 }
 
 /// A block of memory. Its address has 8 bytes of room on each processor.
@@ -313,6 +350,34 @@ extern "C" {
     pub fn needleoat_terminus_status(terminus: *mut Handle, number: u64, message: *mut u8) -> Status;
     pub fn needleoat_terminus_restart(terminus: *mut Handle, now_ms: u64) -> u8;
     pub fn needleoat_terminus_free(terminus: *mut Handle);
+
+    pub fn needleoat_firmware_new(latest: u64, firmware: *mut Handle) -> u8;
+    pub fn needleoat_firmware_component(command: u8, data: *const u8, length: u64, component: *mut Component) -> bool;
+    pub fn needleoat_firmware_receive(
+        firmware: *mut Handle,
+        source: u8,
+        now_ms: u64,
+        command: u8,
+        data: *const u8,
+        length: u64,
+        room: u32,
+        answer: *mut FirmwareAnswer,
+    ) -> FlashStep;
+    pub fn needleoat_firmware_wish(firmware: *mut Handle, now_ms: u64, request: *mut Request) -> bool;
+    pub fn needleoat_firmware_opened(firmware: *mut Handle, number: u64, now_ms: u64) -> u8;
+    pub fn needleoat_firmware_answered(
+        firmware: *mut Handle,
+        number: u64,
+        now_ms: u64,
+        code: u8,
+        data: *const u8,
+        length: u64,
+    ) -> FlashStep;
+    pub fn needleoat_firmware_gave_up(firmware: *mut Handle, number: u64) -> FlashStep;
+    pub fn needleoat_firmware_done(firmware: *mut Handle, number: u64, well: bool);
+    pub fn needleoat_firmware_tick(firmware: *mut Handle, now_ms: u64) -> FlashStep;
+    pub fn needleoat_firmware_stage(firmware: *mut Handle) -> Stage;
+    pub fn needleoat_firmware_free(firmware: *mut Handle);
 }
 
 /// The bytes and their number as the calls take them: one byte at least is there, also where there are none.

@@ -18,7 +18,7 @@ macro_rules! calls {
 }
 
 fn with_a_safe_call() -> BTreeSet<&'static str> {
-    use needleoat::{Endpoint, Record, Requester, Terminus};
+    use needleoat::{Endpoint, Firmware, Record, Requester, Terminus};
     calls! {
         needleoat_packet_read => needleoat::packet_read;
         needleoat_packet_count => needleoat::packet_count;
@@ -77,6 +77,17 @@ fn with_a_safe_call() -> BTreeSet<&'static str> {
         needleoat_terminus_status => Terminus::status;
         needleoat_terminus_restart => Terminus::restart;
         needleoat_terminus_free => Terminus::free;
+        needleoat_firmware_new => Firmware::make;
+        needleoat_firmware_component => needleoat::component_of;
+        needleoat_firmware_receive => Firmware::receive;
+        needleoat_firmware_wish => Firmware::wish;
+        needleoat_firmware_opened => Firmware::opened;
+        needleoat_firmware_answered => Firmware::answered;
+        needleoat_firmware_gave_up => Firmware::gave_up;
+        needleoat_firmware_done => Firmware::done;
+        needleoat_firmware_tick => Firmware::tick;
+        needleoat_firmware_stage => Firmware::stage;
+        needleoat_firmware_free => Firmware::free;
     }
 }
 
@@ -108,7 +119,7 @@ fn in_source(source: &'static str) -> BTreeSet<&'static str> {
 fn each_function_is_declared_and_called() {
     let code = code();
     let functions = functions(&code);
-    assert_eq!(functions.len(), 60, "the test reads the header: 57 calls and three of memory");
+    assert_eq!(functions.len(), 71, "the test reads the header: 68 calls and three of memory");
     let (memory, calls): (BTreeSet<&str>, BTreeSet<&str>) =
         functions.iter().partition(|name| name.starts_with("rattle_"));
     assert_eq!(calls, with_a_safe_call());
@@ -123,6 +134,16 @@ fn in_rust(name: &str) -> String {
     words.map(|word| word[..1].to_uppercase() + &word[1..]).collect()
 }
 
+/// The crate's name of a struct: all handles are alike.
+fn struct_name(name: &str) -> String {
+    match name {
+        "needleoat_endpoint" | "needleoat_requester" | "needleoat_terminus" | "needleoat_firmware" => {
+            "Handle".to_owned()
+        }
+        name => in_rust(name),
+    }
+}
+
 /// The words of `src/layout.rs` for the facts that the header asserts.
 #[test]
 fn each_struct_lies_as_the_header_asserts() {
@@ -130,19 +151,13 @@ fn each_struct_lies_as_the_header_asserts() {
     for line in HEADER.lines() {
         if let Some(fact) = line.strip_prefix("NEEDLEOAT_ASSERT(sizeof(struct ") {
             let (name, size) = fact.trim_end_matches(");").split_once(") == ").expect("a size");
-            let name = match name {
-                "needleoat_endpoint" | "needleoat_requester" | "needleoat_terminus" => "Handle".to_owned(),
-                name => in_rust(name),
-            };
+            let name = struct_name(name);
             assert!(LAYOUT.contains(&format!("    {name} {size} {{\n")), "{name} {size}");
             facts += 1;
         } else if let Some(fact) = line.strip_prefix("NEEDLEOAT_AT(") {
             let words: Vec<&str> = fact.trim_end_matches(");").split(", ").collect();
             let [name, field, place] = words[..] else { panic!("{line}") };
-            let name = match name {
-                "needleoat_endpoint" | "needleoat_requester" | "needleoat_terminus" => "Handle".to_owned(),
-                name => in_rust(name),
-            };
+            let name = struct_name(name);
             let (_, fields) = LAYOUT.split_once(&format!("    {name} ")).expect("a struct");
             let (fields, _) = fields.split_once('}').expect("its end");
             assert!(fields.contains(&format!(" {field} {place},")), "{name} {field} {place}");
@@ -159,13 +174,14 @@ fn between<'a>(text: &'a str, front: &str, end: &str) -> &'a str {
 }
 
 /// The enums of the header, the crate's name of each, and what their names begin with.
-const ENUMS: [(&str, &str, &str); 6] = [
+const ENUMS: [(&str, &str, &str); 7] = [
     ("needleoat_reason", "Reason", "NEEDLEOAT_"),
     ("needleoat_answer_fault", "AnswerFault", "NEEDLEOAT_"),
     ("needleoat_records_fault", "RecordsFault", "NEEDLEOAT_RECORDS_"),
     ("needleoat_i2c_fault", "I2cFault", "NEEDLEOAT_I2C_"),
     ("needleoat_i3c_fault", "I3cFault", "NEEDLEOAT_I3C_"),
     ("needleoat_refusal", "Refusal", "NEEDLEOAT_"),
+    ("needleoat_update_stage", "UpdateStage", "NEEDLEOAT_UPDATE_"),
 ];
 
 #[test]
@@ -181,7 +197,7 @@ fn the_numbers_are_those_of_the_header() {
             numbers += 1;
         }
     }
-    assert_eq!(numbers, 21 + 7 + 2 + 7 + 3 + 17);
+    assert_eq!(numbers, 21 + 7 + 2 + 7 + 3 + 18 + 16);
 }
 
 /// The constants of the crate, and those of the header.
@@ -216,6 +232,8 @@ fn the_constants_are_those_of_the_header() {
         ("GET_STATE_EFFECTER_STATES", command::GET_STATE_EFFECTER_STATES.into()),
         ("GET_PDR_REPOSITORY_INFO", command::GET_PDR_REPOSITORY_INFO.into()),
         ("GET_PDR", command::GET_PDR.into()),
+        ("FIRMWARE_UPDATE", command::FIRMWARE_UPDATE.into()),
+        ("FIRMWARE_ANSWER_DATA", bounds::RESPONSE_DATA),
         ("CODE_SUCCESS", completion_code::SUCCESS.into()),
         ("CODE_ERROR", completion_code::ERROR.into()),
         ("CODE_INVALID_DATA", completion_code::INVALID_DATA.into()),

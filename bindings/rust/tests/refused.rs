@@ -12,7 +12,7 @@ use written::{Example, EXAMPLES};
 
 const LIBRARY_ALIGN: usize = 16;
 /// Which makes no second try, as it has no memory to be refused or tries each call once.
-const WITHOUT: [&str; 3] = ["codecs", "records", "fields"];
+const WITHOUT: [&str; 4] = ["codecs", "records", "fields", "firmware"];
 
 thread_local! {
     static IS_COUNTED: Cell<bool> = const { Cell::new(false) };

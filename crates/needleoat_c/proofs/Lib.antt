@@ -1,4 +1,5 @@
 pub mod AsEndpointBox
+pub mod AsFirmwareBox
 pub mod AsRequesterBox
 pub mod AsTerminusBox
 pub mod Numbers

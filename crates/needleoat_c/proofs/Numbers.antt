@@ -7,6 +7,14 @@ use Rattle.needleoat_c.specs.declared.kinds.TheConstants.{STEP_CONTROL, STEP_PER
 use Rattle.needleoat_c.specs.declared.refusals.TheConstants.{ALREADY_THERE, BAD_MOMENT, BEING_PERFORMED, ID_IN_USE, NOTHING_THERE}
 use Rattle.needleoat_c.specs.declared.refusals.TheConstants.{NO_COMMAND, NO_EID, NO_MEMORY, NOT_ITS_ANSWER, NOT_PENDING, OUT_OF_RANGE}
 use Rattle.needleoat_c.specs.declared.refusals.TheConstants.{OUT_OF_TURN, RESTING, TAG_IN_USE, TOO_MANY_COMMANDS, TOO_MANY_OPEN_MESSAGES, TOO_MANY_SOURCES}
+use Rattle.needleoat_c.specs.declared.firmware.TheConstants.{GENERIC_ERROR}
+use Rattle.needleoat_c.specs.declared.kinds.TheConstants.{FLASH_ABANDON, FLASH_ABANDON_UPDATE, FLASH_ACTIVATE, FLASH_APPLY}
+use Rattle.needleoat_c.specs.declared.kinds.TheConstants.{FLASH_BEGIN, FLASH_NONE, FLASH_STORE, FLASH_VERIFY}
+use Rattle.needleoat_c.specs.declared.kinds.TheConstants.{UPDATE_ACTIVATING, UPDATE_APPLIED, UPDATE_APPLYING, UPDATE_BEGINNING}
+use Rattle.needleoat_c.specs.declared.kinds.TheConstants.{UPDATE_FAILED, UPDATE_FETCHED, UPDATE_FETCHING, UPDATE_IDLE}
+use Rattle.needleoat_c.specs.declared.kinds.TheConstants.{UPDATE_LEARNING, UPDATE_NONE, UPDATE_NOT_APPLIED, UPDATE_NOT_VERIFIED}
+use Rattle.needleoat_c.specs.declared.kinds.TheConstants.{UPDATE_READY, UPDATE_STORING, UPDATE_VERIFIED, UPDATE_VERIFYING}
+use Rattle.needleoat_c.specs.declared.refusals.TheConstants.{FIRMWARE_ANSWERS}
 
 busy_all : BUSY_ALL ≡ 0
 busy_all = refl
@@ -115,3 +123,81 @@ half_answering = refl
 
 half_asking : HALF_ASKING ≡ 1
 half_asking = refl
+
+generic_error : GENERIC_ERROR ≡ 10
+generic_error = refl
+
+flash_none : FLASH_NONE ≡ 0
+flash_none = refl
+
+flash_begin : FLASH_BEGIN ≡ 1
+flash_begin = refl
+
+flash_store : FLASH_STORE ≡ 2
+flash_store = refl
+
+flash_verify : FLASH_VERIFY ≡ 3
+flash_verify = refl
+
+flash_apply : FLASH_APPLY ≡ 4
+flash_apply = refl
+
+flash_activate : FLASH_ACTIVATE ≡ 5
+flash_activate = refl
+
+flash_abandon : FLASH_ABANDON ≡ 6
+flash_abandon = refl
+
+flash_abandon_update : FLASH_ABANDON_UPDATE ≡ 7
+flash_abandon_update = refl
+
+update_none : UPDATE_NONE ≡ 0
+update_none = refl
+
+update_idle : UPDATE_IDLE ≡ 1
+update_idle = refl
+
+update_learning : UPDATE_LEARNING ≡ 2
+update_learning = refl
+
+update_ready : UPDATE_READY ≡ 3
+update_ready = refl
+
+update_beginning : UPDATE_BEGINNING ≡ 4
+update_beginning = refl
+
+update_fetching : UPDATE_FETCHING ≡ 5
+update_fetching = refl
+
+update_storing : UPDATE_STORING ≡ 6
+update_storing = refl
+
+update_fetched : UPDATE_FETCHED ≡ 7
+update_fetched = refl
+
+update_failed : UPDATE_FAILED ≡ 8
+update_failed = refl
+
+update_verifying : UPDATE_VERIFYING ≡ 9
+update_verifying = refl
+
+update_verified : UPDATE_VERIFIED ≡ 10
+update_verified = refl
+
+update_not_verified : UPDATE_NOT_VERIFIED ≡ 11
+update_not_verified = refl
+
+update_applying : UPDATE_APPLYING ≡ 12
+update_applying = refl
+
+update_applied : UPDATE_APPLIED ≡ 13
+update_applied = refl
+
+update_not_applied : UPDATE_NOT_APPLIED ≡ 14
+update_not_applied = refl
+
+update_activating : UPDATE_ACTIVATING ≡ 15
+update_activating = refl
+
+firmware_answers : FIRMWARE_ANSWERS ≡ 18
+firmware_answers = refl

@@ -5,3 +5,5 @@ pub mod Requesters
 pub mod Settings
 pub mod Termini
 pub mod TerminusHandles
+pub mod Firmware
+pub mod FirmwareHandles

@@ -1,10 +1,14 @@
-//! Both ends of PLDM over MCTP for C, and one that answers and asks, each behind a handle of two words: `include/needleoat.h`
-//! declares these calls.
+//! Both ends of PLDM over MCTP for C, one that answers and asks, and the machine of a firmware device, each behind a
+//! handle of two words: `include/needleoat.h` declares these calls.
 #![tactic(auto)]
 
 mod endpoint;
 mod endpoint_calls;
 mod endpoint_handle;
+mod firmware;
+mod firmware_calls;
+mod firmware_handle;
+mod firmware_reports;
 mod kinds;
 mod parts;
 mod refusals;
@@ -23,6 +27,14 @@ pub use endpoint_calls::{
     needleoat_endpoint_request, needleoat_endpoint_restart,
 };
 pub use endpoint_handle::{EndpointForC, EndpointHandle, HiddenEndpoint};
+pub use firmware_calls::{
+    needleoat_firmware_answered, needleoat_firmware_component, needleoat_firmware_done,
+    needleoat_firmware_free, needleoat_firmware_gave_up, needleoat_firmware_new,
+    needleoat_firmware_opened, needleoat_firmware_receive, needleoat_firmware_stage,
+    needleoat_firmware_tick, needleoat_firmware_wish,
+};
+pub use firmware_handle::{FirmwareForC, FirmwareHandle, HiddenFirmware};
+pub use firmware_reports::{ComponentFields, FirmwareAnswer, FlashReport, StageReport};
 pub use reports::{
     ComingReport, DueReport, HandleFields, OpeningReport, PacketReport, RequestFields,
     StatusReport, StepReport,

@@ -50,3 +50,6 @@ pub const NO_EID: u8 = 16;
 
 /// Twice the keeping time has not passed yet since the end began to ask.
 pub const RESTING: u8 = 17;
+
+/// The firmware answers the command itself.
+pub const FIRMWARE_ANSWERS: u8 = 18;

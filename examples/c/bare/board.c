@@ -32,7 +32,10 @@ static volatile uint32_t milliseconds;
  * What came. The handler alone writes `came`, and the main loop alone writes `taken`, so a load and a store are enough,
  * which each Cortex-M has. What comes while the ring is full is lost: the sender of that packet repeats it.
  */
-enum { RING = 256 };
+#ifndef RING_BYTES
+#define RING_BYTES 256
+#endif
+enum { RING = RING_BYTES };
 static volatile uint8_t ring[RING];
 static volatile uint32_t came, taken;
 

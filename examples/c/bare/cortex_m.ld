@@ -1,12 +1,13 @@
 /*
- * The memory of the firmware: 48 KiB of flash and 16 KiB of RAM. What does not fit is an error of the linker. The stack
- * lies at the bottom of the RAM, so where it grows too large the processor faults, and no data is overwritten.
+ * The memory of the firmware: 48 KiB of flash and 16 KiB of RAM, where FLASH_BYTES and RAM_BYTES say nothing else. What
+ * does not fit is an error of the linker. The stack lies at the bottom of the RAM, so where it grows too large the
+ * processor faults, and no data is overwritten.
  */
 MEMORY {
-    FLASH (rx) : ORIGIN = 0x00000000, LENGTH = 48K
-    RAM (rwx) : ORIGIN = 0x20000000, LENGTH = 16K
+    FLASH (rx) : ORIGIN = 0x00000000, LENGTH = DEFINED(FLASH_BYTES) ? FLASH_BYTES : 48K
+    RAM (rwx) : ORIGIN = 0x20000000, LENGTH = DEFINED(RAM_BYTES) ? RAM_BYTES : 16K
 }
-STACK_BYTES = 5K;
+STACK_BYTES = DEFINED(MORE_STACK) ? MORE_STACK : 5K;
 ENTRY(reset)
 
 SECTIONS {
@@ -39,5 +40,5 @@ SECTIONS {
 }
 
 ASSERT(stack_top - ORIGIN(RAM) >= 5K, "the calls of the answering end want a stack of 5 KiB")
-ASSERT(bss_end <= ORIGIN(RAM) + 16K, "the firmware has 16 KiB of RAM")
-ASSERT(LOADADDR(.data) + SIZEOF(.data) <= ORIGIN(FLASH) + 48K, "the firmware has 48 KiB of flash")
+ASSERT(bss_end <= ORIGIN(RAM) + LENGTH(RAM), "the firmware has no more RAM")
+ASSERT(LOADADDR(.data) + SIZEOF(.data) <= ORIGIN(FLASH) + LENGTH(FLASH), "the firmware has no more flash")

@@ -15,12 +15,16 @@ mod control;
 mod fan;
 #[path = "../../examples/fields.rs"]
 mod fields;
+#[path = "../../examples/firmware.rs"]
+mod firmware;
 #[path = "../../examples/fru.rs"]
 mod fru;
 #[path = "../../examples/i2c_fan.rs"]
 mod i2c_fan;
 #[path = "../../examples/records.rs"]
 mod records;
+#[path = "../../examples/update.rs"]
+mod update;
 #[path = "../../examples/window.rs"]
 mod window;
 
@@ -51,8 +55,10 @@ examples! {
     control "";
     fan include_str!("../../../../examples/copies.txt");
     fields "";
+    firmware "";
     fru "";
     i2c_fan "";
     records "";
+    update "";
     window "";
 }
