@@ -100,7 +100,7 @@ self_contained_activation_not_permitted = refl
 
 -- milliseconds, and how often is tried
 
-max_attempts : MAX_ATTEMPTS ≡ 5
+max_attempts : MAX_ATTEMPTS ≡ 10
 max_attempts = refl
 
 retry_time : RETRY_TIME ≡ 1000

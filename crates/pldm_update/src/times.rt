@@ -1,7 +1,7 @@
 //! How long each end waits, and how often it tries.
 
 /// How often an end asks for the same thing before it gives it up. This profile's own number.
-pub const MAX_ATTEMPTS: u8 = 5;
+pub const MAX_ATTEMPTS: u8 = 10;
 
 /// How long an end waits before it asks again where the other had not come so far, in milliseconds (DSP0267, "Timing
 /// specification", FD_T2: 1 to 5 seconds).
