@@ -1,6 +1,6 @@
 -- At each stage the device has said so of just the components before.
 use Rattle.std.proofs.Common.{◌≡◌, ℕ, suc, ◌+◌, ◌<◌, Bool, true, false, List, [], ◌∷◌, Option, Some, None, is_some, refl, subst, ◌∙◌, arith}
-use Rattle.std.specs.Prelude.{◌&&◌, nat_lt, nat_le, if◌then◌else◌}
+use Rattle.std.specs.Prelude.{◌&&◌, nat_lt, nat_le}
 use Rattle.std.proofs.lemmas.Bool.{ltb-true, ltb-false}
 use Rattle.pldm_update.specs.declared.times.TheConstants.{MAX_ATTEMPTS, RETRY_TIME}
 use Rattle.pldm_update.specs.declared.times.TheConstants.{SILENCE}

@@ -429,5 +429,13 @@ all_hold latest [] = record {
 }
 all_hold latest (call ∷ past) = call_holds (machine latest past) call (deeds latest past) (all_hold latest past)
 
+-- while pieces are fetched, the image that was begun has the machine's size, and is not whole
+pub size_where_fetching : (latest : ℕ) (calls : List Call) → (machine latest calls).stage ≡ Fetching
+    → (size_begun (deeds latest calls) ≡ Some (machine latest calls).size) × ((machine latest calls).stored < (machine latest calls).size)
+size_where_fetching latest calls e =
+    let m = machine latest calls in
+    let at : At Fetching m.size m.stored (deeds latest calls) = subst (λ s. At s m.size m.stored (deeds latest calls)) e (all_hold latest calls).at in
+    (at.0.begun, at.1)
+
 pub flash_is_in_order : FlashIsInOrder
 flash_is_in_order latest calls = (all_hold latest calls).order

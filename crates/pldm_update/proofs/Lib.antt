@@ -7,6 +7,8 @@ pub mod FittingData
 pub mod DeedsInOrder
 pub mod OwnPieces
 pub mod OfferedImage
+pub mod OfferedOne
+mod WorkedUpdate
 mod AllApplied
 mod PieceParts
 mod Numbers

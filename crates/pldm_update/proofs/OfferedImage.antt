@@ -6,7 +6,10 @@ use Rattle.std.proofs.Math.Seq.{take-add}
 use Rattle.std.proofs.lemmas.List.{take_all}
 use Rattle.pldm_update.specs.declared.flash.FlashAction.{FlashAction}
 use Rattle.pldm_update.specs.declared.flash.FlashAction.TheVariants.{Store, Begin, Verify, Apply, Activate, Abandon, AbandonUpdate}
-use Rattle.pldm_update.specs.Machines.{Machine}
+use Rattle.pldm_update.specs.Machines.{Machine, is_some_number}
+use Rattle.pldm_update.specs.DeviceAnswers.{Outcome, answered, answered_at, only}
+use Rattle.pldm_update.proofs.DeedsInOrder.{by_test}
+use Rattle.pldm_update.proofs.OwnPieces.{asked_number}
 use Rattle.pldm_update.specs.Deeds.{AreInOrder, Deed, MayCome, deed_of, image}
 use Rattle.pldm_update.specs.DeviceCalls.{Call, RequestUpdate, PassComponent, UpdateComponent, ActivateFirmware, CancelComponent, CancelUpdate, Opened, Answered, GaveUp, Done, Tick, Restart, added, deeds, happens, last_asked, machine, with_deed}
 use Rattle.pldm_update.specs.DeviceLaws.{FlashIsInOrder, ImageIsTheOffered, IsOwnPiece, IsServed, IsServedSince, PiecesAreOwn, VerifiedIsWhole, begins}
@@ -62,39 +65,45 @@ report_front : (file : List ℕ) (reported : Bool) (deed : Deed) (past : List De
 report_front file true deed past same front = same ∙ front ∙ ap (λ (bytes : List ℕ). take (length bytes) file) (sym same)
 report_front file false deed past same front = front
 
+-- only an answer to the request that is open has anything stored
+stored_asked : (m : Machine) (number now code bytes offset : ℕ) → (answered m number now code bytes).action ≡ Some (Store offset) → m.asked ≡ Some number
+stored_asked m number now code bytes offset =
+    by_test (λ (o : Outcome). o.action ≡ Some (Store offset) → m.asked ≡ Some number) (is_some_number m.asked number) (answered_at m.stage (record m { asked = None; heard = now }) code bytes) (only m)
+    (λ t e. asked_number m.asked number t) (λ _ e. absurd (cc))
+
 -- a piece that is stored stands in the image at its offset
 own_piece : (file : List ℕ) (latest : ℕ) (past : List Call) (call : Call) → FlashIsInOrder → PiecesAreOwn
-    → (begins (happens (machine latest past) call).action ≡ false → IsServed file (last_asked latest past) call × IsServedSince file latest past)
+    → (begins (happens (machine latest past) call).action ≡ false → IsServed file (machine latest past) (last_asked latest past) call × IsServedSince file latest past)
     → (offset : ℕ) → (happens (machine latest past) call).action ≡ Some (Store offset)
     → (offset ≡ length (image (deeds latest past))) × (bytes_of call ≡ take (length (bytes_of call)) (drop offset file))
 own_piece file latest past call ordered own served offset e =
     let piece = own latest past call offset e in
     let may = may_come (machine latest past) call (Store offset) (deeds latest past) e (ordered latest (call ∷ past)) in
     let given = (served (ap begins e)).0 in
-    (may.2, bytes_are call piece given)
+    (may.2, bytes_are call piece given e)
   where
-    bytes_are : (call : Call) → (piece : IsOwnPiece latest past call offset) → IsServed file (last_asked latest past) call → bytes_of call ≡ take (length (bytes_of call)) (drop offset file)
-    bytes_are (Answered number now code bytes) piece given =
+    bytes_are : (call : Call) → (piece : IsOwnPiece latest past call offset) → IsServed file (machine latest past) (last_asked latest past) call → (happens (machine latest past) call).action ≡ Some (Store offset) → bytes_of call ≡ take (length (bytes_of call)) (drop offset file)
+    bytes_are (Answered number now code bytes) piece given e =
         let same : Answered number now code bytes ≡ Answered piece.number piece.now SUCCESS piece.bytes = piece.call_is in
         let numbers : number ≡ piece.number = cc in
         let codes : code ≡ SUCCESS = cc in
         let contents : bytes ≡ piece.bytes = cc in
-        given offset (length bytes) (rw (numbers, contents) piece.asked) codes refl
-    bytes_are (RequestUpdate source now most total) piece given = absurd (let x = piece.call_is in cc)
-    bytes_are (PassComponent source now part) piece given = absurd (let x = piece.call_is in cc)
-    bytes_are (UpdateComponent source now size room) piece given = absurd (let x = piece.call_is in cc)
-    bytes_are (ActivateFirmware source now) piece given = absurd (let x = piece.call_is in cc)
-    bytes_are (CancelComponent source now) piece given = absurd (let x = piece.call_is in cc)
-    bytes_are (CancelUpdate source) piece given = absurd (let x = piece.call_is in cc)
-    bytes_are (Opened number now) piece given = absurd (let x = piece.call_is in cc)
-    bytes_are (GaveUp number) piece given = absurd (let x = piece.call_is in cc)
-    bytes_are (Done number well) piece given = absurd (let x = piece.call_is in cc)
-    bytes_are (Tick now) piece given = absurd (let x = piece.call_is in cc)
-    bytes_are (Restart anew) piece given = absurd (let x = piece.call_is in cc)
+        given offset (length bytes) (stored_asked (machine latest past) number now code (length bytes) offset e) (rw (numbers, contents) piece.asked) codes refl
+    bytes_are (RequestUpdate source now most total) piece given e = absurd (let x = piece.call_is in cc)
+    bytes_are (PassComponent source now part) piece given e = absurd (let x = piece.call_is in cc)
+    bytes_are (UpdateComponent source now size room) piece given e = absurd (let x = piece.call_is in cc)
+    bytes_are (ActivateFirmware source now) piece given e = absurd (let x = piece.call_is in cc)
+    bytes_are (CancelComponent source now) piece given e = absurd (let x = piece.call_is in cc)
+    bytes_are (CancelUpdate source) piece given e = absurd (let x = piece.call_is in cc)
+    bytes_are (Opened number now) piece given e = absurd (let x = piece.call_is in cc)
+    bytes_are (GaveUp number) piece given e = absurd (let x = piece.call_is in cc)
+    bytes_are (Done number well) piece given e = absurd (let x = piece.call_is in cc)
+    bytes_are (Tick now) piece given e = absurd (let x = piece.call_is in cc)
+    bytes_are (Restart anew) piece given e = absurd (let x = piece.call_is in cc)
 
 -- with one more call
 with_call : (file : List ℕ) (latest : ℕ) (past : List Call) (call : Call) → (IsServedSince file latest past → IsFront file (image (deeds latest past)))
-    → (begins (happens (machine latest past) call).action ≡ false → IsServed file (last_asked latest past) call × IsServedSince file latest past)
+    → (begins (happens (machine latest past) call).action ≡ false → IsServed file (machine latest past) (last_asked latest past) call × IsServedSince file latest past)
     → ((offset : ℕ) → (happens (machine latest past) call).action ≡ Some (Store offset) → (offset ≡ length (image (deeds latest past))) × (bytes_of call ≡ take (length (bytes_of call)) (drop offset file)))
     → IsFront file (image (added (machine latest past) call (deeds latest past)))
 with_call file latest past (RequestUpdate source now most total) front served piece = deed_front file (happens (machine latest past) (RequestUpdate source now most total)).action [] (deeds latest past) (λ none. front (served none).1) piece

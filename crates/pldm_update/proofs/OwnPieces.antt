@@ -18,11 +18,11 @@ use Rattle.pldm_update.specs.DeviceCalls.{Call, Question, RequestUpdate, PassCom
 use Rattle.pldm_update.specs.DeviceLaws.{IsOwnPiece, PiecesAreOwn}
 use Rattle.pldm_update.proofs.DeedsInOrder.{by_test, none_later, none_both}
 
-abbrev question : ℕ → DeviceRequest → Question
+abbrev pub question : ℕ → DeviceRequest → Question
 question number request = record { number = number; request = request }
 
 -- ---- the open request
-abbrev IsAskedAs : Machine → Option Question → Type 0
+abbrev pub IsAskedAs : Machine → Option Question → Type 0
 IsAskedAs m last =
     (n : ℕ) → m.asked ≡ Some n
     → (request : DeviceRequest) × (wish_at m.stage m ≡ Some request) × (last ≡ Some (question n request))
@@ -211,7 +211,7 @@ same_last latest (Done number well) past = refl
 same_last latest (Tick now) past = refl
 same_last latest (Restart anew) past = refl
 
-all_asked : (latest : ℕ) (calls : List Call) → IsAskedAs (machine latest calls) (last_asked latest calls)
+pub all_asked : (latest : ℕ) (calls : List Call) → IsAskedAs (machine latest calls) (last_asked latest calls)
 all_asked latest [] = none_asked (first_machine latest) None refl
 all_asked latest (call ∷ past) =
     subst (IsAskedAs (machine latest (call ∷ past))) (sym (same_last latest call past))
@@ -264,7 +264,7 @@ no_command : (fault : Option ℕ) (m : Machine) (outcome : Outcome) (offset : �
 no_command None m outcome offset other e = other e
 no_command (Some code) m outcome offset other e = cc
 
-asked_number : (asked : Option ℕ) (number : ℕ) → is_some_number asked number ≡ true → asked ≡ Some number
+pub asked_number : (asked : Option ℕ) (number : ℕ) → is_some_number asked number ≡ true → asked ≡ Some number
 asked_number None number t = absurd (cc)
 asked_number (Some this) number t = ap Some (eqb-true this number t)
 

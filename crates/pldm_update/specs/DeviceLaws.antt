@@ -44,13 +44,13 @@ abbrev pub OneAgentAtATime : Type 0
 OneAgentAtATime =
     (m : Machine) (call : Call) → is_idle m.stage ≡ false → IsOfAnother m call → happens m call ≡ only m
 
--- a call answers the request that was opened last, where this one asked for a piece: with the bytes of the image from that
--- offset on
-abbrev pub IsServed : List ℕ → Option Question → Call → Type 0
-IsServed file last (Answered number now code bytes) =
-    (offset count : ℕ) → last ≡ Some (record { number = number; request = Piece offset count }) → code ≡ SUCCESS
-    → length bytes ≡ count → bytes ≡ take count (drop offset file)
-IsServed file last call = Unit {0}
+-- a call answers the request that is open, the one that was opened last, where this one asked for a piece: with the bytes
+-- of the image from that offset on
+abbrev pub IsServed : List ℕ → Machine → Option Question → Call → Type 0
+IsServed file m last (Answered number now code bytes) =
+    (offset count : ℕ) → m.asked ≡ Some number → last ≡ Some (record { number = number; request = Piece offset count })
+    → code ≡ SUCCESS → length bytes ≡ count → bytes ≡ take count (drop offset file)
+IsServed file m last call = Unit {0}
 
 -- a call begins a transfer
 abbrev pub begins : Option FlashAction → Bool
@@ -63,7 +63,7 @@ module _ (file : List ℕ) (latest : ℕ) where
   IsServedSince [] = Unit {0}
   IsServedSince (call ∷ past) =
       begins (happens (machine latest past) call).action ≡ false
-      → IsServed file (last_asked latest past) call × IsServedSince past
+      → IsServed file (machine latest past) (last_asked latest past) call × IsServedSince past
 
 -- then what is stored is the image's own beginning, byte for byte, and what is verified is the whole image
 abbrev pub ImageIsTheOffered : Type 0

@@ -35,3 +35,4 @@ pub mod DeviceRequests
 pub mod ImagePieces
 pub mod AgentCalls
 pub mod AgentLaws
+pub mod UpdateRuns

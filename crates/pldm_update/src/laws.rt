@@ -3,6 +3,7 @@
 ghost use Rattle.pldm_update.specs.Laws.{AnswerReadBack, CommandReadBack, DataFits, OneAnswer, OneCommand, ValuesFound, ValuesReadBack, ValuesWritten, WrittenAnswerReadBack, WrittenCommandReadBack};
 ghost use Rattle.pldm_update.specs.DeviceLaws.{FlashIsInOrder, ImageIsTheOffered, OneAgentAtATime, PiecesAreOwn, VerifiedIsWhole};
 ghost use Rattle.pldm_update.specs.AgentLaws.{ActivatesWhatWasApplied};
+ghost use Rattle.pldm_update.specs.UpdateRuns.{ImageIsTheOfferedOne};
 ghost use Rattle.pldm_update.specs.PackageLaws.{OnePackage, PackageReadBack, RecordsApply};
 
 /// Of every layout: the values that stand in data are read from it, what is read from data stands in it, and what
@@ -68,6 +69,18 @@ pub fn verified_is_whole()
 {
     flash_is_in_order();
     image_is_the_offered();
+}
+
+/// Over both ends, whatever is lost, repeated, late or restarted between them: where each piece that the device takes as
+/// the answer to its open request, since the transfer began, is one that the agent gave to that very request, what the
+/// flash is told to verify is the agent's file, byte for byte, where the transfer began with its size.
+///
+/// That nothing is activated that was not verified and applied, well, is [`flash_is_in_order`]: it is of every list of
+/// the device's calls, so also of those over both ends, whatever the agent gave and the device took.
+pub fn image_is_the_offered_one()
+    ensures { ImageIsTheOfferedOne }
+{
+    verified_is_whole();
 }
 
 /// After every list of calls: ActivateFirmware is asked only where the device has said of each component that it was
