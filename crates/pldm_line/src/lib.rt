@@ -28,10 +28,10 @@ pub use log::Log;
 use mctp_packet::MAX_PACKETS;
 use mctp_serial::MAX_FRAME_BYTES;
 pub use mctpctl_input::Port;
-pub use quiet::{END_MS, END_READS};
+pub use quiet::{END_MS, END_READS, Quiet};
 pub use serve_fault::ServeFault;
 pub use served_line::{ServedLine, serve};
-pub use ticks::{LaterTicks, ListTicks, SystemTicks, Ticks};
+pub use ticks::{LaterTicks, ListTicks, SystemTicks, Ticks, moment_after};
 
 /// The most bytes of the frames of one answer.
 pub const MAX_ANSWER_BYTES: usize = MAX_PACKETS * MAX_FRAME_BYTES;

@@ -13,7 +13,7 @@ pub const END_MS: u64 = 50;
 
 /// The reads of 0 bytes in a row.
 #[derive(Clone, Copy, Debug)]
-pub(crate) struct Quiet {
+pub struct Quiet {
     /// The moment before the first of them.
     since: Moment,
     /// How many there are, at most [`END_READS`].
@@ -22,7 +22,7 @@ pub(crate) struct Quiet {
 
 impl Quiet {
     /// None so far.
-    pub(crate) fn new(now: Moment) -> Quiet
+    pub fn new(now: Moment) -> Quiet
         ensures { result ≡ quiet_from now }
     {
         Quiet {
@@ -32,7 +32,7 @@ impl Quiet {
     }
 
     /// Takes a read that has ended now.
-    pub(crate) fn take(&mut self, is_none: bool, now: Moment)
+    pub fn take(&mut self, is_none: bool, now: Moment)
         ensures { self.new ≡ quiet_after is_none self.old now }
     {
         if !is_none || self.since.get() + END_MS <= now.get() {
@@ -43,7 +43,7 @@ impl Quiet {
     }
 
     /// Whether the line has ended.
-    pub(crate) fn is_end(&self) -> bool
+    pub fn is_end(&self) -> bool
         ensures { result ≡ is_end self.now }
     {
         self.reads >= END_READS

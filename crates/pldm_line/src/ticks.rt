@@ -14,7 +14,7 @@ use std::time::{Clock, Instant};
 
 /// The moment of a reading of the clock: the later of the last one and the reading, which is cut at the greatest
 /// moment.
-pub(crate) fn moment_after(last: Moment, reading: u64) -> Moment
+pub fn moment_after(last: Moment, reading: u64) -> Moment
     ensures value { result ≡ moment_after last reading }
     ensures range { IsMoment result }
     ensures forward { last ≤ result }

@@ -1,23 +1,61 @@
-//! What both ends of an update do with their terminus.
+//! The two ends of an update, with a flash in memory, and a millisecond of one of them.
 
 use crate::update::line::Line;
-use arrayvec::ArrayVec;
 use bus_endpoint::BusEndpoint;
+use lamp_board::Dimmer;
 use mctp_packet::{Body, Eid, Keep, Moment, split};
-use pldm_endpoint::{CommandHandle, Endpoint};
-use pldm_requester::{Due, Opened, Status, Timing};
-use pldm_responder::{Bounds, MessageOutcome, ResponderSettings};
-use pldm_terminus::{Terminus, TerminusStep};
-use pldm_update::{
-    FIRMWARE_UPDATE, UpdateAnswer, UpdateCommand, UpdateData, update_answer_data,
-    update_command_data,
-};
-use pldm_wire::{Kind, MAX_REQUEST_DATA, PassThrough, read_response};
+use pldm_endpoint::Endpoint;
+use pldm_requester::Timing;
+use pldm_responder::{Bounds, ResponderSettings};
+use pldm_terminus::Terminus;
+use pldm_update::{Component, DeviceIdentifiers, FIRMWARE_UPDATE, FlashAction, VersionString};
+use pldm_wire::PassThrough;
 use std::alloc::Global;
 use std::process::Abort;
+use update_line::{AgentEnd, FirmwareEnd, FirmwareSettings, Flash, Offer, Reply, UpdateEnd};
+
+/// How many packets an end takes in a millisecond.
+const MOST_PACKETS: u8 = 20;
+
+/// The component.
+const BOARD: Component = Component {
+    classification: 10,
+    identifier: 0x1234,
+    index: 0,
+};
+
+/// A flash with a slot for the image that comes, and one for the active one.
+#[derive(Drop)]
+pub(super) struct TwoSlots {
+    coming: Vec<u8>,
+    pub(super) active: Vec<u8>,
+}
+
+impl Flash for TwoSlots {
+    ghost use Rattle.std.specs.Prelude.{⊤};
+
+    ghost acted = { λ _ _ _ _ _. ⊤ };
+
+    fn act(&mut self, action: FlashAction, piece: &[u8]) -> bool {
+        match action {
+            FlashAction::Begin { .. } | FlashAction::Abandon | FlashAction::AbandonUpdate => {
+                self.coming.clear();
+                true
+            }
+            FlashAction::Store { offset } => {
+                self.coming.len() == offset as usize && self.coming.extend_from_slice(piece).is_ok()
+            }
+            FlashAction::Verify | FlashAction::Apply => true,
+            FlashAction::Activate => {
+                self.active.clear();
+                self.active.extend_from_slice(&self.coming).is_ok()
+            }
+        }
+    }
+}
 
 /// The end of this endpoint ID, which asks that peer and hands requests of firmware update on as bytes.
-pub(super) fn end(rt: &impl Abort, alloc: Global, own: u8, peer: u8) -> Terminus {
+fn end(rt: &impl Abort, alloc: Global, own: u8, peer: u8) -> Terminus {
     let own = Eid::new(own).expect(rt, "an endpoint ID");
     let peer = Eid::new(peer).expect(rt, "an endpoint ID");
     let keep = Keep::new(200).expect(rt, "a keeping time");
@@ -38,115 +76,84 @@ pub(super) fn end(rt: &impl Abort, alloc: Global, own: u8, peer: u8) -> Terminus
     Terminus::new(alloc, answering, peer, timing, rest)
 }
 
-/// What an end makes of a packet; `None` where it is refused, and so as good as lost.
-pub(super) fn receive(
-    rt: &impl Abort,
-    end: &mut Terminus,
-    now: Moment,
-    bytes: &[u8],
-    reply: &mut Body,
-) -> Option<TerminusStep> {
-    let last = end.answering().endpoint().last_moment();
-    assert!(rt; last <= now);
-    if let Some(requester) = end.asking() {
-        let last = requester.last_moment();
-        assert!(rt; last <= now);
-    }
-    end.receive_message(now, bytes, reply).ok()
+/// The version of the image.
+fn version(rt: &impl Abort) -> VersionString {
+    VersionString::new(1, b"v2").expect(rt, "a version")
 }
 
-/// The number and the data of the request that was handed on under this handle.
-pub(super) fn request(rt: &impl Abort, end: &Terminus, handle: &CommandHandle) -> (u8, UpdateData) {
-    let request = end.answering().endpoint().request(handle);
-    let request = request.expect(rt, "a request");
-    let mut data = UpdateData::new();
-    data.try_extend_from_slice(request.data())
-        .expect(rt, "data");
-    (request.kind().command, data)
-}
-
-/// Gives the answer to the request under this handle, and sends it.
-pub(super) fn respond(
-    rt: &impl Abort,
-    end: &mut Terminus,
-    now: Moment,
-    handle: &CommandHandle,
-    answer: &UpdateAnswer,
-    line: &mut Line,
-) {
-    let mut reply = Body::new();
-    let data = update_answer_data(answer);
-    let taken = end.answer_bytes_message(handle, answer.code(), &data, &mut reply);
-    send(rt, now, taken.expect(rt, "an answer"), &reply, line);
-}
-
-/// Sends what answers a packet, if anything does.
-pub(super) fn send(
-    rt: &impl Abort,
-    now: Moment,
-    taken: MessageOutcome,
-    reply: &Body,
-    line: &mut Line,
-) {
-    if let MessageOutcome::Answered { route, .. } = taken {
-        let packets = split(&route, reply).expect(rt, "packets");
-        line.send(rt, now, &packets);
-    }
-}
-
-/// Opens a request for this command and sends it; `None` where that is refused for now.
-pub(super) fn open(
-    rt: &impl Abort,
-    end: &mut Terminus,
-    now: Moment,
-    command: &UpdateCommand,
-    line: &mut Line,
-) -> Option<u64> {
-    if let Some(requester) = end.asking() {
-        let last = requester.last_moment();
-        assert!(rt; last <= now);
-    }
-    let kind = Kind {
-        pldm_type: FIRMWARE_UPDATE,
-        command: command.number(),
+/// What the agent offers.
+pub(super) fn offers<'a>(rt: &impl Abort, alloc: Global, image: &'a [u8]) -> Vec<Offer<'a>> {
+    let mut offers = Vec::new(alloc);
+    let offer = Offer {
+        component: BOARD,
+        comparison_stamp: 2,
+        option_flags: 0,
+        version: version(rt),
+        image,
     };
-    let data = update_command_data(command);
-    assert!(rt; data.len() <= MAX_REQUEST_DATA);
-    let number = end.open_request(now, kind, &data).ok()?.number;
-    send_request(rt, end, now, number, line);
-    Some(number)
+    offers.push(offer).expect(rt, "memory");
+    offers
 }
 
-/// Sends the packets of a request.
-pub(super) fn send_request(
+/// An agent at endpoint 8, for the device at 9.
+pub(super) fn agent_end<'a>(
     rt: &impl Abort,
-    end: &Terminus,
-    now: Moment,
-    number: u64,
-    line: &mut Line,
-) {
-    let requester = end.asking().expect(rt, "a requester");
-    line.send(rt, now, requester.packets(number).expect(rt, "packets"));
+    alloc: Global,
+    offers: &'a [Offer<'a>],
+) -> AgentEnd<'a> {
+    AgentEnd::new(end(rt, alloc, 8, 9), offers, version(rt), 0).expect(rt, "an agent")
 }
 
-/// What is due at this moment.
-pub(super) fn tick(rt: &impl Abort, end: &mut Terminus, now: Moment) -> Due {
-    if let Some(requester) = end.asking() {
-        let last = requester.last_moment();
-        assert!(rt; last <= now);
-    }
-    end.tick(now)
-}
-
-/// The completion code and the data of the answer to a request.
-pub(super) fn response(rt: &impl Abort, end: &Terminus, number: u64) -> (u8, UpdateData) {
-    let requester = end.asking().expect(rt, "a requester");
-    let Some(Status::Answered(message)) = requester.status(number) else {
-        panic!(rt; "no answer");
+/// A device at endpoint 9, with room for so many bytes.
+pub(super) fn device_end(
+    rt: &impl Abort,
+    alloc: Global,
+    room: u32,
+) -> FirmwareEnd<Dimmer, TwoSlots> {
+    let settings = FirmwareSettings {
+        agent: Eid::new(8).expect(rt, "an endpoint ID"),
+        component: BOARD,
+        room,
     };
-    let response = read_response(message).expect(rt, "a response");
-    let mut data = UpdateData::new();
-    data.try_extend_from_slice(response.data())
-        .expect(rt, "data");
-    (response.code(), data)
+    let flash = TwoSlots {
+        coming: Vec::new(alloc),
+        active: Vec::new(alloc),
+    };
+    let identifiers = DeviceIdentifiers::new(2, &[9; 16]).expect(rt, "identifiers");
+    FirmwareEnd::new(
+        alloc,
+        end(rt, alloc, 9, 8),
+        Dimmer::new(alloc).expect(rt, "memory"),
+        flash,
+        settings,
+        identifiers,
+        VersionString::new(1, b"v1").expect(rt, "a version"),
+    )
+}
+
+/// A millisecond of an end: first what has come, then what it asks or asks again.
+pub(super) fn pass(
+    rt: &impl Abort,
+    now: Moment,
+    end: &mut impl UpdateEnd,
+    from: &mut Line,
+    to: &mut Line,
+) {
+    for _ in 0..MOST_PACKETS {
+        let Some(packet) = from.next(now) else {
+            break;
+        };
+        let mut reply = Body::new();
+        let sent = end.receive(now.get(), &packet, &mut reply);
+        if let Reply::Message(route) = sent.expect(rt, "memory") {
+            to.send(rt, now, &split(&route, &reply).expect(rt, "packets"));
+        }
+    }
+    let sending = end.pass(now.get()).expect(rt, "memory");
+    for number in &sending.again {
+        to.send(rt, now, end.packets(*number).expect(rt, "packets"));
+    }
+    if let Some(number) = sending.opened {
+        to.send(rt, now, end.packets(number).expect(rt, "packets"));
+    }
 }

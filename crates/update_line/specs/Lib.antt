@@ -1,0 +1,3 @@
+pub mod FirmwareEnds
+pub mod OwnAnswers
+pub mod TypeAnswers
