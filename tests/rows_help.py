@@ -17,6 +17,7 @@ ON_A_LINE = {
     "walk": "Asks a device on a serial line for all that it has, and prints a table of it",
     "watch": "Reads the sensors and effecters of a device on a serial line again and again",
     "assign": "Gives the device at the other end of a serial line an endpoint ID",
+    "update": "Brings a firmware update to a device on a serial line",
 }
 TOP_OPTIONS = "Options:\n  -h, --help     Print help\n  -V, --version  Print version\n"
 
@@ -62,7 +63,8 @@ def whole(texts):
         yield [name, "--help"], page
         yield ["help", name], page
     options = (("--device <FILE>", "DEVICE"), ("--log <FILE>", "LOG"), ("--verbose", "VERBOSE"))
-    options += (("--faults <FAULTS>", "FAULTS"), ("--explain", "EXPLAIN"))
+    options += (("--faults <FAULTS>", "FAULTS"), ("--explain", "EXPLAIN"), ("--firmware <FILE>", "FIRMWARE"))
+    options += (("--agent <EID>", "AGENT"), ("--lifetime <MS>", "PIECE_LIFETIME"))
     width = 2 + max(len(option) for option, _ in options)
     flags = "".join(f"      {option:<{width}}{texts[name]}\n" for option, name in options)
     flags += f"  -h, {'--help':<{width}}Print help\n"
@@ -93,17 +95,25 @@ ASKED = {
     "walk": (("--records <FILE>", "RECORDS"),),
     "watch": (("--every <MS>", "EVERY"), ("--count <N>", "COUNT"), ("--log <FILE>", "READINGS")),
     "assign": (),
+    "update": (
+        ("--component <COMPONENT>", "COMPONENT"),
+        ("--image-version <TEXT>", "IMAGE_VERSION"),
+        ("--dry-run", "DRY_RUN"),
+    ),
 }
+WORDS = {"ask": ("[COMMAND]...", "COMMAND"), "update": ("<IMAGE>", "IMAGE")}
 
 
 def help_on_a_line(texts, name):
-    """Its options, whose column is as wide as the longest; of `ask` the words of the command before them."""
+    """Its options, whose column is as wide as the longest; before them the words of `ask` and of `update`."""
     options = (*LINKED, *ASKED[name])
     width = 2 + max(len(option) for option, _ in options)
     flags = "".join(f"      {option:<{width}}{texts[key]}\n" for option, key in options)
     flags += f"  -h, {'--help':<{width}}Print help\n"
-    words = f"Arguments:\n  [COMMAND]...  {texts['COMMAND']}\n\n" if name == "ask" else ""
-    usage = f"Usage: mctpctl {name} [OPTIONS] --own <EID> --device <EID>{' [COMMAND]...' if words else ''}"
+    words, usage = "", f"Usage: mctpctl {name} [OPTIONS] --own <EID> --device <EID>"
+    if name in WORDS:
+        word, key = WORDS[name]
+        words, usage = f"Arguments:\n  {word}  {texts[key]}\n\n", f"{usage} {word}"
     return f"{ON_A_LINE[name]}\n\n{usage}\n\n{words}Options:\n{flags}\n{texts[name.upper()]}\n"
 
 

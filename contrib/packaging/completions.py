@@ -46,6 +46,9 @@ SUBCOMMANDS = {
             Option("--verbose", None, "Say what is dropped, and why"),
             Option("--faults", "SEED,LOSE,REPEAT,DELAY", "Lose, repeat and delay frames"),
             EXPLAIN,
+            Option("--firmware", FILE, "Take firmware updates into this file"),
+            Option("--agent", "EID", "The endpoint ID of the update agent"),
+            Option("--lifetime", "MS", "How late a packet of a request for a piece may come"),
         ],
     ),
     "ask": (
@@ -70,6 +73,15 @@ SUBCOMMANDS = {
         ],
     ),
     "assign": ("Give a device an endpoint ID", ON_A_LINE),
+    "update": (
+        "Bring a firmware update to a device",
+        [
+            *ON_A_LINE,
+            Option("--component", "CLASSIFICATION:IDENTIFIER:INDEX", "The component of an image"),
+            Option("--image-version", "TEXT", "The version of an image"),
+            Option("--dry-run", None, "Transfer nothing"),
+        ],
+    ),
     "help": ("Print help of a subcommand", []),
 }
 TOP = [HELP, Option("--version", None, "Print the version", "V")]

@@ -10,11 +10,12 @@ set_terminal() {
     esac
 }
 
-# Sets what a subcommand with these words asks on: the terminal that --line names, else standard input. That is not
+# Sets what a subcommand with these words asks on, a served device with --firmware too: the terminal that --line names, else standard input. That is not
 # touched where it is standard error too, since it is then the user's own terminal.
 set_line() {
     case ${1-} in
-    ask | walk | watch | assign) ;;
+    ask | walk | watch | assign | update) ;;
+    serve) case " $* " in *' --firmware'*) ;; *) return 0 ;; esac ;;
     *) return 0 ;;
     esac
     before='' line='' is_named=''

@@ -11,7 +11,8 @@ from support.terminals import set_ticking
 
 
 class LossyLine:
-    """A line of two raw terminals. Of each direction's bytes, about one in `one_in` is lost, by a stated seed."""
+    """A line of two raw terminals. Of each direction's bytes, about one in `one_in` is lost, by a stated seed; none
+    where that is 0."""
 
     def __init__(self, one_in, seed):
         self.one_in = one_in
@@ -48,7 +49,9 @@ class LossyLine:
                     found = os.read(master, 4096)
                 except OSError:
                     return
-                kept = bytes(byte for byte in found if self.chance[side].randrange(self.one_in))
+                kept = found
+                if self.one_in:
+                    kept = bytes(byte for byte in found if self.chance[side].randrange(self.one_in))
                 self.passed += len(kept)
                 self.lost += len(found) - len(kept)
                 os.write(self.masters[1 - side], kept)

@@ -1,5 +1,5 @@
 -- The numbers of what asks a device, as a command line spells them.
-use Rattle.std.specs.Prelude.{ℕ, ◌/◌, ◌==◌, ◌||◌, max, min, nat_le, nat_lt, not, List, codes, if◌then◌else◌}
+use Rattle.std.specs.Prelude.{ℕ, ◌/◌, ◌==◌, ◌||◌, max, min, nat_le, nat_lt, not, false, List, codes, if◌then◌else◌}
 use Rattle.std.specs.Prelude.{Option, None, Some, is_some, option_and_then, option_map, unwrap_or}
 use Rattle.line_words.specs.Numbers.{number_of}
 use Rattle.mctp_packet.specs.declared.TheConstants.{MAX_EID, MAX_KEEP, MIN_EID}

@@ -6,6 +6,7 @@ ghost use Rattle.pldm_requester.specs.Slots.{held_of};
 use crate::statuses::FAILED;
 use mctpctl_state::{Queries, StateFile};
 use pldm_line::{AskFault, AskingLine};
+use pldm_requester::Openings;
 use std::io;
 
 /// How many control queries a walk has.
@@ -42,11 +43,26 @@ impl Keeper {
     pub fn keep_next<C>(&mut self, rt: &HostRuntime, line: &AskingLine<C>) -> Result<(), AskFault>
         ensures { IfErr result (λ fault. fault ≡ AskFault.Write) }
     {
+        self.keep_openings(rt, &line.openings(), line.moment().get())
+    }
+
+    /// Keeps these openings up to the moment `last`, and that one request more may be opened. To be called before each.
+    ///
+    /// # Errors
+    ///
+    /// As from [`Keeper::keep_next`].
+    pub fn keep_openings(
+        &mut self,
+        rt: &HostRuntime,
+        openings: &Openings,
+        last: u64,
+    ) -> Result<(), AskFault>
+        ensures { IfErr result (λ fault. fault ≡ AskFault.Write) }
+    {
         let Some(file) = &self.file else {
             return Ok(());
         };
-        let last = line.moment().get();
-        match file.keep(rt, &line.openings(), self.queries, last) {
+        match file.keep(rt, openings, self.queries, last) {
             Ok(()) => Ok(()),
             Err(error) => {
                 self.fault = Some(error);

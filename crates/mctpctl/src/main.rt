@@ -11,6 +11,7 @@ mod conversation;
 mod device_file;
 mod errands;
 mod faults;
+mod firmware_serving;
 mod keeper;
 mod line;
 mod serial_line;
@@ -18,6 +19,8 @@ mod settings;
 mod state;
 mod statuses;
 mod talk;
+mod update_ends;
+mod updating;
 mod walking;
 mod watching;
 
@@ -28,6 +31,7 @@ use crate::errands::{ask_device, run_assign, run_walk, run_watch};
 use crate::faults::{print_fault, say_more};
 use crate::serial_line::serve_device;
 use crate::statuses::{DONE, FAILED, USAGE};
+use crate::updating::run_update;
 use mctpctl_colours::{Colouring, Marks, is_asked};
 use mctpctl_command_line::{Choice, ChooseFault, Task, TextTask, choose};
 use mctpctl_decode::decode_all;
@@ -74,6 +78,7 @@ fn perform(rt: &HostRuntime) -> Result<u8, ChooseFault> {
         Ok(Choice::Walk(options)) => Ok(run_walk(rt, &options)),
         Ok(Choice::Watch(options)) => Ok(run_watch(rt, &options)),
         Ok(Choice::Assign(link)) => Ok(run_assign(rt, &link)),
+        Ok(Choice::Update(options)) => Ok(run_update(rt, &options)),
         Err(fault) => Err(fault),
     }
 }

@@ -10,6 +10,7 @@ ghost use Rattle.pldm_responder.specs.ResponderViews.{held_of};
 use crate::control_responder::{control_responder, eid_at_first};
 use crate::device_file::{device_text, read_served};
 use crate::faults::{engine_fault, print_fault, say_more};
+use crate::firmware_serving::{FirmwareFault, serve_updates};
 use crate::line::{EndingReader, input_name};
 use crate::statuses::{DONE, FAILED, USAGE};
 use line_faults::{FaultsPart, FaultyReader, FaultyWriter, LineFaults, read_faults};
@@ -40,6 +41,8 @@ enum ServiceFault {
     Clock,
     /// Not all drops were named, or the capture is not whole.
     Log,
+    /// A device that takes updates was not served.
+    Firmware(FirmwareFault),
     /// Another fault, which an engine has too.
     Engine(EngineFault),
 }
@@ -74,12 +77,30 @@ pub fn serve_device(rt: &HostRuntime, service: &ServeOptions<'_>) -> u8
             let _ = eprintln!(rt; "mctpctl: log fault");
             FAILED
         }
+        Err(ServiceFault::Firmware(fault)) => firmware_failed(rt, service, &fault),
         Err(ServiceFault::Engine(fault)) => print_fault(rt, &fault),
     }
 }
 
+/// Says why a device that takes updates was not served, and returns the exit status.
+fn firmware_failed(rt: &HostRuntime, service: &ServeOptions<'_>, fault: &FirmwareFault) -> u8
+    ensures { result ≤ FAILED }
+{
+    match fault {
+        FirmwareFault::Option(option) => {
+            let _ = eprint!(rt; "error: invalid value for '{option}'{TRY_HELP}");
+            USAGE
+        }
+        FirmwareFault::Device(error) => file_failed(rt, service.firmware.unwrap_or(""), error),
+        FirmwareFault::Line(fault) => {
+            let _ = eprintln!(rt; "mctpctl: {fault}");
+            FAILED
+        }
+    }
+}
+
 /// Prints that the file of this name failed, and returns the exit status.
-fn file_failed(rt: &HostRuntime, name: &str, error: &io::Error) -> u8
+pub fn file_failed(rt: &HostRuntime, name: &str, error: &io::Error) -> u8
     ensures { result ≡ FAILED }
 {
     let _ = eprintln!(rt; "mctpctl: {name}: {error}");
@@ -92,6 +113,13 @@ fn run(rt: &HostRuntime, service: &ServeOptions<'_>) -> Result<(), ServiceFault>
     let faults = faults_of(service)?;
     let (description, table) = described(rt, service)?;
     let watch = watcher(rt, service)?;
+    if let Some(name) = service.firmware {
+        return match serve_updates(rt, service, name, description, &table, faults, watch) {
+            Ok(false) => Ok(()),
+            Ok(true) => Err(ServiceFault::Log),
+            Err(fault) => Err(ServiceFault::Firmware(fault)),
+        };
+    }
     let Ok(ticks) = SystemTicks::new(rt) else {
         return Err(ServiceFault::Clock);
     };

@@ -8,6 +8,7 @@ use line_words::read_number;
 use mctp_packet::{Eid, Keep, MAX_KEEP};
 use mctpctl_command_line::{LineOptions, WatchOptions};
 use pldm_requester::{MAX_TRIES, Pace, PaceFault, Timing};
+use pldm_update::Component;
 use pldm_wire::INSTANCE_IDS;
 
 /// The keeping time where none is given: that of a link to the requester of a usual bus owner.
@@ -21,6 +22,9 @@ pub const TRIES: u64 = 3;
 
 /// The lifetime where only the window is given: more than a serial line takes to deliver a packet.
 pub const LIFETIME_MS: u64 = 250;
+
+/// The endpoint ID of the update agent where none is given.
+const AGENT_EID: u8 = 8;
 
 /// The greatest number of an endpoint ID.
 const MAX_EID: u64 = mctp_packet::MAX_EID as u64;
@@ -173,6 +177,41 @@ pub fn periods_of(options: &WatchOptions<'_>) -> Result<Periods, &'static str>
         return Err("--count <N>");
     };
     Ok(Periods { every, count })
+}
+
+/// The component that a word spells as `CLASSIFICATION:IDENTIFIER:INDEX`, where there is a word.
+pub fn component_of(word: Option<&str>) -> Result<Option<Component>, &'static str> {
+    let Some(word) = word else {
+        return Ok(None);
+    };
+    match component_in(word) {
+        Some(component) => Ok(Some(component)),
+        None => Err("--component <COMPONENT>"),
+    }
+}
+
+/// The component that a word spells.
+fn component_in(word: &str) -> Option<Component> {
+    let (classification, rest) = word.split_once(':')?;
+    let (identifier, index) = rest.split_once(':')?;
+    Some(Component {
+        classification: read_number(classification.as_bytes(), u64::from(u16::MAX))? as u16,
+        identifier: read_number(identifier.as_bytes(), u64::from(u16::MAX))? as u16,
+        index: read_number(index.as_bytes(), u64::from(u8::MAX))? as u8,
+    })
+}
+
+/// The endpoint ID of the update agent that a word spells; the usual one where there is no word.
+pub fn agent_of(word: Option<&str>) -> Option<Eid> {
+    match word {
+        Some(word) => eid(word),
+        None => Eid::new(AGENT_EID),
+    }
+}
+
+/// The lifetime of a request for a piece of the firmware that a word spells; the usual one where there is no word.
+pub fn piece_lifetime_of(word: Option<&str>) -> Option<u64> {
+    number(word, u64::from(MAX_KEEP), LIFETIME_MS)
 }
 
 /// The endpoint ID that a word spells.

@@ -290,7 +290,7 @@ fn marks_of(rt: &HostRuntime, talk: &Talk<'_>, out: &impl IsTerminal) -> Option<
 
 /// For how many milliseconds answers to earlier requests may come, where nothing is known of these: twice the keeping
 /// time.
-fn settling_time(settings: &Settings) -> u64
+pub fn settling_time(settings: &Settings) -> u64
     ensures { result ≡ 2 * settings.now.timing.keep }
 {
     2 * u64::from(settings.timing.keep.get())

@@ -6,7 +6,7 @@ use Rattle.clap.specs.declared.error.kind.ErrorKind.TheVariants.{ArgumentConflic
 use Rattle.mctpctl_input.specs.declared.binding.Binding.{Binding}
 use Rattle.mctpctl_input.specs.declared.binding.Binding.TheVariants.{I2c, I3c, Serial}
 use Rattle.mctpctl_command_line.specs.Choice.{command as the_command}
-use Rattle.mctpctl_command_line.specs.Choice.{choice_of, Asked, Linked, Questioned, to_ask, to_assign, to_perform, to_serve, to_walk, to_watch}
+use Rattle.mctpctl_command_line.specs.Choice.{choice_of, Asked, Linked, Questioned, to_ask, to_assign, to_perform, to_serve, to_update, to_walk, to_watch}
 use Rattle.mctpctl_command_line.specs.declared.choice.Task.{Task}
 use Rattle.mctpctl_command_line.specs.declared.choice.Task.TheVariants.{Answer, Run, Show}
 
@@ -19,7 +19,7 @@ shows decode binding =
     to_perform (record { task = Show; explain = false; decode = decode; binding = Some binding })
 
 abbrev serves : List ℕ → Option (List ℕ) → Bool → Option (List ℕ) → Asked
-serves device log verbose faults = to_serve (record { device = device; log = log; verbose = verbose; faults = faults; explain = false })
+serves device log verbose faults = to_serve (record { device = device; log = log; verbose = verbose; faults = faults; explain = false; firmware = None; agent = None; lifetime = None })
 
 answer : choice_of (codes "mctpctl" ∷ codes "answer" ∷ []) ≡ Some (asks Answer false false)
 unfolding clap_on_literals
@@ -121,7 +121,7 @@ two_devices = refl
 
 -- a description that is served is explained
 described : choice_of (codes "mctpctl" ∷ codes "serve" ∷ codes "--device" ∷ codes "a" ∷ codes "--explain" ∷ [])
-    ≡ Some (to_serve (record { device = codes "a"; log = None; verbose = false; faults = None; explain = true }))
+    ≡ Some (to_serve (record { device = codes "a"; log = None; verbose = false; faults = None; explain = true; firmware = None; agent = None; lifetime = None }))
 unfolding clap_on_literals
 described = refl
 
@@ -220,3 +220,23 @@ watch_with_all = refl
 assign : choice_of (codes "mctpctl" ∷ codes "assign" ∷ codes "--own=8" ∷ codes "--device=9" ∷ []) ≡ Some (to_assign from_8_to_9)
 unfolding clap_on_literals
 assign = refl
+
+-- what is brought to endpoint 9, with nothing else said
+updated :
+    choice_of
+    (codes "mctpctl" ∷ codes "update" ∷ codes "--own" ∷ codes "8" ∷ codes "--device" ∷ codes "9" ∷ codes "fan.bin" ∷ [])
+    ≡ Some (to_update (record {
+      link = from_8_to_9;
+      image = codes "fan.bin";
+      component = None;
+      version = None;
+      dry_run = false;
+    }))
+unfolding clap_on_literals
+updated = refl
+
+-- what is brought has to be named
+nothing_to_bring :
+    choice_of (codes "mctpctl" ∷ codes "update" ∷ codes "--own" ∷ codes "8" ∷ codes "--device" ∷ codes "9" ∷ []) ≡ None
+unfolding clap_on_literals
+nothing_to_bring = refl

@@ -23,6 +23,7 @@ use Rattle.mctpctl_command_line.specs.declared.choice.TextTask.{TextTask}
 use Rattle.mctpctl_command_line.specs.declared.choice.Task.{Task}
 use Rattle.mctpctl_command_line.specs.declared.choice.Task.TheVariants.{Answer, Run, Show}
 use Rattle.mctpctl_command_line.specs.declared.choice.WatchOptions.{WatchOptions}
+use Rattle.mctpctl_command_line.specs.declared.choice.UpdateOptions.{UpdateOptions}
 use Rattle.mctpctl_command_line.specs.declared.choice.ChooseFault.{ChooseFault}
 use Rattle.mctpctl_command_line.specs.declared.choice.ChooseFault.TheVariants.{Help, Refused, Memory}
 
@@ -56,9 +57,15 @@ serving_subcommand =
     (record (value_option (codes "device")) { required = true }))
     (value_option (codes "log"))) (flag (codes "verbose"))
 
--- `serve`, with the faults of the line, and whether the description is explained
+-- and may be given the faults of the line, and be asked to explain the description
+abbrev pub explained_subcommand : App
+explained_subcommand = with_rule (with_rule serving_subcommand (value_option (codes "faults"))) (flag (codes "explain"))
+
+-- `serve`, also with the file of the device's firmware, its update agent, and the line's lifetime
 abbrev pub serve_subcommand : App
-serve_subcommand = with_rule (with_rule serving_subcommand (value_option (codes "faults"))) (flag (codes "explain"))
+serve_subcommand =
+    with_rule (with_rule (with_rule explained_subcommand (value_option (codes "firmware")))
+    (value_option (codes "agent"))) (value_option (codes "lifetime"))
 
 -- the subcommands that simulate a device over a text
 abbrev pub device_command : App
@@ -136,8 +143,25 @@ abbrev pub watching_command : App
 watching_command = with_subcommand walking_command watch_subcommand.top
 
 -- `assign` gives the device its endpoint ID
+abbrev pub assigning_command : App
+assigning_command = with_subcommand watching_command (stated_subcommand (codes "assign")).top
+
+-- the one word that is no option
+abbrev pub updated_file : Rule
+updated_file = record (new_rule (codes "image")) { action = Some Set; value_names = 1; required = true }
+
+-- `update` may be given the component and the version, and be asked to transfer nothing
+abbrev pub bringing_subcommand : App
+bringing_subcommand =
+    with_rule (with_rule (with_rule (stated_subcommand (codes "update")) (value_option (codes "component")))
+    (value_option (codes "image-version"))) (flag (codes "dry-run"))
+
+-- and requires the file
+abbrev pub update_subcommand : App
+update_subcommand = with_rule bringing_subcommand updated_file
+
 abbrev pub command : App
-command = with_subcommand watching_command (stated_subcommand (codes "assign")).top
+command = with_subcommand assigning_command update_subcommand.top
 
 -- whether `clap` takes the words, of which the first is the program's name
 abbrev pub takes_line : List (List ℕ) → Bool
@@ -162,13 +186,16 @@ abbrev pub is_given : List ℕ → List Row → Bool
 is_given name rows = option_map_or (λ text. bytes_eq text (codes "true")) (first_of name rows) false
 
 -- a device that is served: the names of its files, whether drops are named, the faults of its line as they are spelled,
--- and whether its description is explained
+-- whether its description is explained, and its update agent and the line's lifetime as they are spelled
 pub record Served : Type 0 where
   pub device : List ℕ
   pub log : Option (List ℕ)
   pub verbose : Bool
   pub faults : Option (List ℕ)
   pub explain : Bool
+  pub firmware : Option (List ℕ)
+  pub agent : Option (List ℕ)
+  pub lifetime : Option (List ℕ)
 
 -- who asks whom on which line, and when again: the words of the line, with the numbers as they are spelled
 pub record Linked : Type 0 where
@@ -203,6 +230,14 @@ pub record Watched : Type 0 where
   pub count : Option (List ℕ)
   pub readings : Option (List ℕ)
 
+-- a device that is brought a firmware update
+pub record Updated : Type 0 where
+  pub link : Linked
+  pub image : List ℕ
+  pub component : Option (List ℕ)
+  pub version : Option (List ℕ)
+  pub dry_run : Bool
+
 -- what a command line may ask for
 pub data Asked : Type 0 where
   to_perform : TextTask → Asked
@@ -211,6 +246,7 @@ pub data Asked : Type 0 where
   to_walk : WalkAsked → Asked
   to_watch : Watched → Asked
   to_assign : Linked → Asked
+  to_update : Updated → Asked
 
 -- what a value of the code asks for
 abbrev pub served : ServeOptions → Served
@@ -220,6 +256,9 @@ served service = record {
   verbose = service.verbose;
   faults = option_map (λ text. text.now) service.faults;
   explain = service.explain;
+  firmware = option_map (λ file. file.now) service.firmware;
+  agent = option_map (λ text. text.now) service.agent;
+  lifetime = option_map (λ text. text.now) service.lifetime;
 }
 
 abbrev pub linked : LineOptions → Linked
@@ -255,6 +294,15 @@ watch_options options = record {
   readings = option_map (λ text. text.now) options.readings;
 }
 
+abbrev pub update_options : UpdateOptions → Updated
+update_options options = record {
+  link = linked options.link;
+  image = options.image.now;
+  component = option_map (λ text. text.now) options.component;
+  version = option_map (λ text. text.now) options.version;
+  dry_run = options.dry_run;
+}
+
 abbrev pub asked : Choice → Asked
 asked (choice.Text task) = to_perform task
 asked (choice.Serve service) = to_serve (served service)
@@ -262,6 +310,7 @@ asked (choice.Ask question) = to_ask (questioned question)
 asked (choice.Walk options) = to_walk (walk_options options)
 asked (choice.Watch options) = to_watch (watch_options options)
 asked (choice.Assign link) = to_assign (linked link)
+asked (choice.Update options) = to_update (update_options options)
 
 -- what is asked for by what was found of the arguments of `serve`
 abbrev pub service_in : List Row → Option Served
@@ -273,6 +322,9 @@ service_in rows =
       verbose = is_given (codes "verbose") rows;
       faults = first_of (codes "faults") rows;
       explain = is_given (codes "explain") rows;
+      firmware = first_of (codes "firmware") rows;
+      agent = first_of (codes "agent") rows;
+      lifetime = first_of (codes "lifetime") rows;
     })
     (first_of (codes "device") rows)
 
@@ -321,6 +373,17 @@ watch_options_in rows =
       readings = first_of (codes "log") rows;
     }) (link_in rows)
 
+-- and of `update`
+abbrev pub update_options_in : List Row → Option Updated
+update_options_in rows =
+    option_and_then (λ link. option_map (λ image. record {
+      link = link;
+      image = image;
+      component = first_of (codes "component") rows;
+      version = first_of (codes "image-version") rows;
+      dry_run = is_given (codes "dry-run") rows;
+    }) (first_of (codes "image") rows)) (link_in rows)
+
 -- the binding that is asked for, if one is: a name that is none's asks for nothing
 abbrev pub binding_asked : Option (List ℕ) → Option (Option Binding)
 binding_asked None = Some None
@@ -350,6 +413,7 @@ choice_in found =
     else if bytes_eq found.0 (codes "walk") then option_map to_walk (walk_options_in found.1)
     else if bytes_eq found.0 (codes "watch") then option_map to_watch (watch_options_in found.1)
     else if bytes_eq found.0 (codes "assign") then option_map to_assign (link_in found.1)
+    else if bytes_eq found.0 (codes "update") then option_map to_update (update_options_in found.1)
     else option_map to_perform (text_task_in found)
 
 -- what a line that is taken asks for

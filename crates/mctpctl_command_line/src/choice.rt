@@ -4,12 +4,13 @@ ghost use Rattle.std.specs.Prelude.{◌≡◌, IfOk, IfErr, Some, false, map, op
 ghost use Rattle.mctp_packet.specs.Memories.{out_of_memory};
 ghost use Rattle.clap.specs.Words.{app_of, first_of, found_of, kind_of, rows_of, rule_of, subcommand_rows_of};
 ghost use Rattle.mctpctl_command_line.specs.FaultNumbers.{number_of_choose_fault};
-ghost use Rattle.mctpctl_command_line.specs.Choice.{ask_subcommand as the_ask_subcommand, asked, asking_command as the_asking_command, binding_in, binding_named, choice_in as the_choice, choice_of, command as the_command, command_words as the_command_words, device_command as the_device_command, flag as the_flag, has_globals, is_given, line_command as the_line_command, line_subcommand as the_line_subcommand, link_in, linked, paced_subcommand as the_paced_subcommand, program as the_program, question_in, questioned, serve_subcommand as the_serve_subcommand, serving_subcommand as the_serving_subcommand, served, service_in, show_subcommand as the_show_subcommand, stated_subcommand as the_stated_subcommand, walk_options_in, walk_options, task_named, text_command as the_text_command, text_subcommand as the_text_subcommand, text_task_in, timed_subcommand as the_timed_subcommand, value_option as the_value_option, values_given, watch_options_in, watch_options, walk_subcommand as the_walk_subcommand, walking_command as the_walking_command, watch_subcommand as the_watch_subcommand, watching_command as the_watching_command, ReportsKind, ReportsRefusal};
+ghost use Rattle.mctpctl_command_line.specs.Choice.{ask_subcommand as the_ask_subcommand, asked, asking_command as the_asking_command, binding_in, binding_named, choice_in as the_choice, choice_of, command as the_command, command_words as the_command_words, device_command as the_device_command, flag as the_flag, has_globals, is_given, line_command as the_line_command, line_subcommand as the_line_subcommand, link_in, linked, paced_subcommand as the_paced_subcommand, program as the_program, question_in, questioned, serve_subcommand as the_serve_subcommand, serving_subcommand as the_serving_subcommand, served, service_in, show_subcommand as the_show_subcommand, stated_subcommand as the_stated_subcommand, update_options, update_options_in, update_subcommand as the_update_subcommand, updated_file as the_updated_file, walk_options_in, walk_options, task_named, text_command as the_text_command, text_subcommand as the_text_subcommand, text_task_in, timed_subcommand as the_timed_subcommand, value_option as the_value_option, values_given, watch_options_in, watch_options, walk_subcommand as the_walk_subcommand, walking_command as the_walking_command, watch_subcommand as the_watch_subcommand, watching_command as the_watching_command, assigning_command as the_assigning_command, bringing_subcommand as the_bringing_subcommand, explained_subcommand as the_explained_subcommand, ReportsKind, ReportsRefusal};
 
 use crate::help::{
-    ANSWER, ASK, ASKED, ASSIGN, BINDING, BINDINGS, COMMAND, COMMANDS, COUNT, DECODE, DEVICE, EVERY,
-    EXPLAIN, FAULTS, HEX, KEEP, LIFETIME, LINE, LOG, NO_BINDING, NO_STATE, OWN, READINGS, RECORDS,
-    RUN, SERVE, SHOW, STATE, STATUSES, TIMEOUT, TRIES, VERBOSE, VERSION, WALK, WATCH, WINDOW,
+    AGENT, ANSWER, ASK, ASKED, ASSIGN, BINDING, BINDINGS, COMMAND, COMMANDS, COMPONENT, COUNT,
+    DECODE, DEVICE, DRY_RUN, EVERY, EXPLAIN, FAULTS, FIRMWARE, HEX, IMAGE, IMAGE_VERSION, KEEP,
+    LIFETIME, LINE, LOG, NO_BINDING, NO_STATE, OWN, PIECE_LIFETIME, READINGS, RECORDS, RUN, SERVE,
+    SHOW, STATE, STATUSES, TIMEOUT, TRIES, UPDATE, VERBOSE, VERSION, WALK, WATCH, WINDOW,
 };
 use clap::error::ErrorKind;
 use clap::{Arg, ArgAction, ArgMatches, Command};
@@ -33,6 +34,8 @@ pub enum Choice<'a> {
     Watch(WatchOptions<'a>),
     /// The endpoint ID of the device at the other end of a serial line: it is given that of these options.
     Assign(LineOptions<'a>),
+    /// A firmware update for a device on a serial line.
+    Update(UpdateOptions<'a>),
 }
 
 /// What is done with a text.
@@ -72,6 +75,12 @@ pub struct ServeOptions<'a> {
     pub faults: Option<&'a str>,
     /// Whether a refused description is explained, and warned of what is ignored in it (`--explain`).
     pub explain: bool,
+    /// The file of the device's firmware, where it takes updates (`--firmware`).
+    pub firmware: Option<&'a str>,
+    /// The endpoint ID of its update agent (`--agent`), as it is spelled.
+    pub agent: Option<&'a str>,
+    /// How late a packet of a request for a piece of the image may still come (`--lifetime`), as it is spelled.
+    pub lifetime: Option<&'a str>,
 }
 
 /// Who asks whom on which line, and when again: the numbers as they are spelled.
@@ -134,6 +143,21 @@ pub struct WatchOptions<'a> {
     pub readings: Option<&'a str>,
 }
 
+/// A device that is brought a firmware update: the numbers as they are spelled.
+#[derive(Clone, Copy, Debug)]
+pub struct UpdateOptions<'a> {
+    /// Who asks whom.
+    pub link: LineOptions<'a>,
+    /// The file of the package, or of the image.
+    pub image: &'a str,
+    /// The component that the image is for (`--component`).
+    pub component: Option<&'a str>,
+    /// The version of the image (`--image-version`).
+    pub version: Option<&'a str>,
+    /// Whether the device is only asked what it is, and nothing is transferred (`--dry-run`).
+    pub dry_run: bool,
+}
+
 /// Why there is no task.
 #[derive(Debug, Drop, Error)]
 pub enum ChooseFault {
@@ -189,6 +213,16 @@ pub fn choose<'a>(alloc: Global, words: &'a [&'a str]) -> Result<Choice<'a>, Cho
 /// The command line's definition for `clap`.
 fn command<'a>(alloc: Global) -> Result<Command<'a>, AllocError>
     ensures { IfOk result (λ command. app_of command ≡ the_command) }
+{
+    let update = update_subcommand(alloc)?
+        .about("Brings a firmware update to a device on a serial line")
+        .after_help(UPDATE);
+    assigning_command(alloc)?.subcommand(update)
+}
+
+/// The program with the subcommands that simulate a device, with `ask`, `walk`, `watch` and `assign`.
+fn assigning_command<'a>(alloc: Global) -> Result<Command<'a>, AllocError>
+    ensures { IfOk result (λ command. app_of command ≡ the_assigning_command) }
 {
     let assign = stated_subcommand(alloc, "assign")?
         .about("Gives the device at the other end of a serial line an endpoint ID")
@@ -282,6 +316,17 @@ fn serve_subcommand<'a>(alloc: Global) -> Result<Command<'a>, AllocError>
     ensures app { IfOk result (λ command. app_of command ≡ the_serve_subcommand) }
     ensures local { IfOk result (λ command. has_globals command ≡ false) }
 {
+    explained_subcommand(alloc)?
+        .arg(value_option(alloc, "firmware", "FILE", FIRMWARE))?
+        .arg(value_option(alloc, "agent", "EID", AGENT))?
+        .arg(value_option(alloc, "lifetime", "MS", PIECE_LIFETIME))
+}
+
+/// The subcommand `serve`, with the options of its device, its log and its faults, and `--explain`.
+fn explained_subcommand<'a>(alloc: Global) -> Result<Command<'a>, AllocError>
+    ensures app { IfOk result (λ command. app_of command ≡ the_explained_subcommand) }
+    ensures local { IfOk result (λ command. has_globals command ≡ false) }
+{
     serving_subcommand(alloc)?
         .arg(value_option(alloc, "faults", "FAULTS", FAULTS))?
         .arg(flag(alloc, "explain", EXPLAIN))
@@ -327,6 +372,37 @@ fn watch_subcommand<'a>(alloc: Global) -> Result<Command<'a>, AllocError>
         .arg(value_option(alloc, "every", "MS", EVERY))?
         .arg(value_option(alloc, "count", "N", COUNT))?
         .arg(value_option(alloc, "log", "FILE", READINGS))
+}
+
+/// The subcommand `update`, with its options and its file.
+fn update_subcommand<'a>(alloc: Global) -> Result<Command<'a>, AllocError>
+    ensures app { IfOk result (λ command. app_of command ≡ the_update_subcommand) }
+    ensures local { IfOk result (λ command. has_globals command ≡ false) }
+{
+    bringing_subcommand(alloc)?.arg(updated_file(alloc))
+}
+
+/// The subcommand `update`, with its options.
+fn bringing_subcommand<'a>(alloc: Global) -> Result<Command<'a>, AllocError>
+    ensures app { IfOk result (λ command. app_of command ≡ the_bringing_subcommand) }
+    ensures local { IfOk result (λ command. has_globals command ≡ false) }
+{
+    stated_subcommand(alloc, "update")?
+        .arg(value_option(alloc, "component", "COMPONENT", COMPONENT))?
+        .arg(value_option(alloc, "image-version", "TEXT", IMAGE_VERSION))?
+        .arg(flag(alloc, "dry-run", DRY_RUN))
+}
+
+/// The file of a package or an image: the one word that is no option.
+fn updated_file<'a>(alloc: Global) -> Arg<'a>
+    ensures rule { rule_of result ≡ the_updated_file }
+    ensures local { result.global ≡ false }
+{
+    Arg::new(alloc, "image")
+        .value_name("IMAGE")
+        .action(ArgAction::Set)
+        .required(true)
+        .help(IMAGE)
 }
 
 /// A subcommand of this name, with the options of a line, of time, of the pace and of the state.
@@ -444,6 +520,7 @@ fn choice_for<'a>(name: &str, matches: &ArgMatches<'a>) -> Option<Choice<'a>>
         "walk" => Some(Choice::Walk(walk_options_of(matches)?)),
         "watch" => Some(Choice::Watch(watch_options_of(matches)?)),
         "assign" => Some(Choice::Assign(link_of(matches)?)),
+        "update" => Some(Choice::Update(update_options_of(matches)?)),
         _ => Some(Choice::Text(text_task(name, matches)?)),
     }
 }
@@ -498,6 +575,9 @@ fn service_of<'a>(matches: &ArgMatches<'a>) -> Option<ServeOptions<'a>>
         verbose: is_given(matches, "verbose"),
         faults: value(matches, "faults"),
         explain: is_given(matches, "explain"),
+        firmware: value(matches, "firmware"),
+        agent: value(matches, "agent"),
+        lifetime: value(matches, "lifetime"),
     })
 }
 
@@ -535,6 +615,21 @@ fn watch_options_of<'a>(matches: &ArgMatches<'a>) -> Option<WatchOptions<'a>>
         every: value(matches, "every"),
         count: value(matches, "count"),
         readings: value(matches, "log"),
+    })
+}
+
+/// The device that is brought an update, by the arguments of `update`.
+fn update_options_of<'a>(matches: &ArgMatches<'a>) -> Option<UpdateOptions<'a>>
+    ensures { option_map update_options result ≡ update_options_in (rows_of (found_of matches.now)) }
+{
+    let link = link_of(matches)?;
+    let image = value(matches, "image")?;
+    Some(UpdateOptions {
+        link,
+        image,
+        component: value(matches, "component"),
+        version: value(matches, "image-version"),
+        dry_run: is_given(matches, "dry-run"),
     })
 }
 

@@ -36,6 +36,16 @@ pub const VERBOSE: &str = "Say on standard error what is dropped, and why";
 /// What `--faults` does.
 pub const FAULTS: &str = "SEED,LOSE,REPEAT,DELAY: lose, repeat and delay frames, both ways";
 
+/// What `--firmware` names.
+pub const FIRMWARE: &str = "Take firmware updates into this file";
+
+/// What `--agent` is.
+pub const AGENT: &str = "The endpoint ID of the update agent, 8 to 254 [default: 8]";
+
+/// What `--lifetime` of `serve` is.
+pub const PIECE_LIFETIME: &str =
+    "How late a packet of a request for a piece of the firmware may come [default: 250]";
+
 /// What is said before the reason where `--faults` has another value.
 pub const NO_FAULTS: &str = "error: invalid value for '--faults <FAULTS>': ";
 
@@ -77,6 +87,19 @@ pub const NO_STATE: &str = "Keep nothing, and wait until earlier requests can ha
 
 /// What `--records` names.
 pub const RECORDS: &str = "Write the records of the device to this file, as they were read";
+
+/// What the one word of `update` names.
+pub const IMAGE: &str = "A firmware update package, or the image of a component";
+
+/// What `--component` is.
+pub const COMPONENT: &str =
+    "CLASSIFICATION:IDENTIFIER:INDEX of the component that an image is for [default: the only one]";
+
+/// What `--image-version` is.
+pub const IMAGE_VERSION: &str = "The version of an image [default: the name of its file]";
+
+/// What `--dry-run` does.
+pub const DRY_RUN: &str = "Ask what the device is and whether the file is for it; transfer nothing";
 
 /// What `--every` is.
 pub const EVERY: &str = "How long a period is, up to a day [default: 1000]";
@@ -245,6 +268,14 @@ and of those that go out. Of the others 20 percent come twice, and each comes up
 milliseconds late. The seed, here 7, chooses which: the same seed and frames have the same
 faults. A delayed frame holds up those after it. Bytes that are no frame are lost.
 
+With --firmware FILE the device takes firmware updates (DSP0267) of the endpoint --agent,
+for its one component, 10:1:0. Pieces of 256 bytes are stored in FILE.part; an image that
+is applied is FILE.new, and FILE from its activation on. Killed at any moment, FILE is
+the old one or the new one, whole. Reads of the line have to end where nothing comes:
+
+  stty -F /dev/ttyS1 raw -echo min 0 time 1
+  mctpctl serve --device device.toml --firmware fan.bin < /dev/ttyS1 > /dev/ttyS1
+
 Exit status:
   0  the input has ended; that a terminal hung up is said on standard error
   1  the description was refused: one line on standard error says why
@@ -343,6 +374,39 @@ Exit status:
   3  no answer came in the tries, or the line ended; or a file, a read, a write or the
      clock failed, or there was no memory. One line on standard error says which; none
      where nobody reads the output";
+
+/// What `update` does and prints.
+pub const UPDATE: &str = "\
+A firmware update (DSP0267): the device is asked what it is and which firmware it has; the
+table of components is passed; then the device asks for each image, piece by piece, and
+verifies, applies and activates it. The file is a firmware update package, of which the
+images for this device are taken, or one image. The line, the endpoint IDs, the times and
+the state are those of 'ask':
+
+  stty -F /dev/ttyS1 raw -echo min 0 time 1
+  mctpctl update --line /dev/ttyS1 --own 8 --device 9 fan.bin
+
+Output: each state as it comes; on a terminal, also how much of an image the device has
+asked for, at which speed, and how long the rest takes:
+
+  device identifier 0002 4e6565646c658f618074000000000009
+  component 10:1:0 active version \"1.0\"
+  update requested
+  component 10:1:0 65536 bytes
+  component 10:1:0 transferred
+  component 10:1:0 verified
+  component 10:1:0 applied
+  activated
+
+What is transferred is the file, byte for byte, whatever is lost, repeated or late. With
+--dry-run the first lines alone are printed, and whether the file is for the device.
+
+Exit status:
+  0  the device has said that it activates the images; with --dry-run, the file is for it
+  1  the device refused, gave up or was silent, or the file is not for it
+  2  the command line was refused, or the file is no package and no image
+  3  no answer came in the tries, or the line ended; or a file, a read, a write or the
+     clock failed, or there was no memory. One line on standard error says which";
 
 /// What `watch` reads and writes.
 pub const WATCH: &str = "\

@@ -5,7 +5,7 @@ mod choice;
 mod help;
 
 pub use choice::{
-    AskOptions, Choice, ChooseFault, LineOptions, ServeOptions, Task, TextTask, WalkOptions,
-    WatchOptions, choose,
+    AskOptions, Choice, ChooseFault, LineOptions, ServeOptions, Task, TextTask, UpdateOptions,
+    WalkOptions, WatchOptions, choose,
 };
 pub use help::{NO_COMMAND, NO_FAULTS, TRY_HELP};

@@ -1,0 +1,105 @@
+//! What a device is asked before an update: what it is, and which firmware it has.
+
+ghost use Rattle.std.specs.Prelude.{OnOk};
+ghost use Rattle.mctpctl_input.specs.Ports.{BothWork};
+
+use crate::session::{Keeps, SessionFault, keep_next};
+use mctpctl_input::Port;
+use pldm_line::{Ticks, Watch};
+use pldm_terminus::Terminus;
+use pldm_update::{
+    DeviceIdentifiers, FirmwareParameters, UpdateAnswer, UpdateCommand, UpdateFault,
+};
+use pldm_wire::SUCCESS;
+use std::io::{Read, Write};
+use update_line::{QuestionEnd, UpdateLine, take_turn};
+
+/// The name of the question what a device is.
+const IDENTIFIERS: &str = "QueryDeviceIdentifiers";
+
+/// The name of the question which firmware it has.
+const PARAMETERS: &str = "GetFirmwareParameters";
+
+/// Asks what identifies the device.
+pub(crate) fn ask_identifiers<C: Ticks, L: Watch, R: Read, W: Write, K: Keeps>(
+    end: Terminus,
+    line: &mut UpdateLine<C, L>,
+    reader: &mut Port<R>,
+    writer: &mut Port<W>,
+    keeper: &mut K,
+) -> Result<(Terminus, DeviceIdentifiers), SessionFault>
+    requires works { BothWork reader.old writer.old }
+    ensures works { OnOk result (BothWork reader.new writer.new) }
+{
+    let question = QuestionEnd::new(end, UpdateCommand::QueryDeviceIdentifiers);
+    let (end, answer) = follow(question, line, reader, writer, keeper)?;
+    match read(IDENTIFIERS, answer)? {
+        UpdateAnswer::QueryDeviceIdentifiers { identifiers } => Ok((end, identifiers)),
+        other => Err(refused(IDENTIFIERS, &other)),
+    }
+}
+
+/// Asks which firmware the device has.
+pub(crate) fn ask_parameters<C: Ticks, L: Watch, R: Read, W: Write, K: Keeps>(
+    end: Terminus,
+    line: &mut UpdateLine<C, L>,
+    reader: &mut Port<R>,
+    writer: &mut Port<W>,
+    keeper: &mut K,
+) -> Result<(Terminus, FirmwareParameters), SessionFault>
+    requires works { BothWork reader.old writer.old }
+    ensures works { OnOk result (BothWork reader.new writer.new) }
+{
+    let question = QuestionEnd::new(end, UpdateCommand::GetFirmwareParameters);
+    let (end, answer) = follow(question, line, reader, writer, keeper)?;
+    match read(PARAMETERS, answer)? {
+        UpdateAnswer::GetFirmwareParameters { parameters } => Ok((end, parameters)),
+        other => Err(refused(PARAMETERS, &other)),
+    }
+}
+
+/// The answer to a question of this name, where one came and is one.
+fn read(
+    name: &'static str,
+    answer: Option<Result<UpdateAnswer, UpdateFault>>,
+) -> Result<UpdateAnswer, SessionFault> {
+    match answer {
+        None => Err(SessionFault::NoAnswer(name)),
+        Some(Err(_)) => Err(SessionFault::NotRead(name)),
+        Some(Ok(answer)) => Ok(answer),
+    }
+}
+
+/// Why another answer is none to a question of this name.
+fn refused(name: &'static str, answer: &UpdateAnswer) -> SessionFault {
+    match answer.code() {
+        SUCCESS => SessionFault::NotRead(name),
+        code => SessionFault::Refused(name, code),
+    }
+}
+
+/// Follows a question until it has ended, and returns its answer, where one came.
+fn follow<C: Ticks, L: Watch, R: Read, W: Write, K: Keeps>(
+    question: QuestionEnd,
+    line: &mut UpdateLine<C, L>,
+    reader: &mut Port<R>,
+    writer: &mut Port<W>,
+    keeper: &mut K,
+) -> Result<(Terminus, Option<Result<UpdateAnswer, UpdateFault>>), SessionFault>
+    requires works { BothWork reader.old writer.old }
+    ensures works { OnOk result (BothWork reader.new writer.new) }
+{
+    let mut question = question;
+    for _ in 0..u64::MAX {
+        if question.is_over {
+            let answer = question.answer();
+            return Ok((question.end, answer));
+        }
+        keep_next(&question.end, line.last.get(), keeper)?;
+        match take_turn(&mut question, line, reader, writer) {
+            Ok(()) => {}
+            Err(fault) => return Err(SessionFault::Line(fault)),
+        }
+    }
+    Err(SessionFault::TooMany)
+}
