@@ -15,6 +15,11 @@ def check_packets(rows, line, statistics, sources=(EID,)):
     rows.check(f"the check sequences of the device's {len(frames)} frames", frames and not bad, str(bad[:3]))
     bad = odd_packets(frames, sources)
     rows.check("the headers of its packets", not bad, str(bad[:3]))
+    check_counts(rows, line, statistics)
+
+
+def check_counts(rows, line, statistics):
+    """What Linux counts is what passed the line, and none of it was refused."""
     rows.equal("bytes between frames", dict(line.stray), {})
     counted = (statistics["tx_packets"], statistics["rx_packets"])
     rows.equal("packets that Linux counts", counted, (len(line.came[TO_DEVICE]), len(line.passed[TO_GUEST])))

@@ -124,6 +124,8 @@ class Chance:
     # how often a frame is delivered, and in how many of a hundred
     ANSWERS = ((0, 1, 2), (7, 88, 5))
     REQUESTS = ((0, 1, 2, 3), (15, 60, 20, 5))
+    # which share of the copies is late; and, of an answer's, by how many seconds at most
+    LATE_ANSWERS, LATE_REQUESTS = (0.07, 0.9), 0.4
 
     def __init__(self, seed, keep_ms, slack_ms):
         self.random = random.Random(seed)
@@ -135,16 +137,21 @@ class Chance:
     def deliveries(self, direction, frame):
         """Triples of a frame, the seconds until it is delivered, and the moment after which it is left out."""
         now = time.monotonic()
-        if direction == TO_GUEST:
+        if self.is_answer(direction, frame):
             copies = self.random.choices(*self.ANSWERS)[0]
             self.tally[f"frames of answers delivered {copies} times"] += 1
-            return [(frame, self.late(0.07, 0.9), None) for _ in range(copies)]
+            return [(frame, self.late(*self.LATE_ANSWERS), None) for _ in range(copies)]
         request = frame.packet[4:]
         if now - self.first_sent.get(request, -self.keep) >= self.keep:
             self.first_sent[request] = now
         copies = self.random.choices(*self.REQUESTS)[0]
         self.tally[f"requests delivered {copies} times"] += 1
-        return [(frame, self.late(0.4, self.room), self.first_sent[request] + self.room) for _ in range(copies)]
+        until = self.first_sent[request] + self.room
+        return [(frame, self.late(self.LATE_REQUESTS, self.room), until) for _ in range(copies)]
+
+    def is_answer(self, direction, frame):
+        """Here the device asks nothing."""
+        return direction == TO_GUEST
 
     def late(self, share, most):
         """Seconds until a copy is delivered: more than none for this share of the copies."""
@@ -166,19 +173,24 @@ class SerialLine:
         self.told = b""  # what the device wrote to standard error
         self.orders, self.chance = Orders(), None
         self.queue, self.turn = [], itertools.count()
-        self.fault = None
+        self.fault, self.is_stopped = None, False
         self.thread = threading.Thread(target=self.run, daemon=True)
         self.thread.start()
 
     def run(self):
         try:
-            while self.sources:
+            while self.sources and not self.is_stopped:
                 self.deliver_due()
                 wait = max(0, self.queue[0][0] - time.monotonic()) if self.queue else 1
                 for source in select.select([*self.sources, self.told_by], [], [], min(wait, 1))[0]:
                     self.take(source)
         except (OSError, ValueError) as fault:
             self.fault = fault
+
+    def stop(self):
+        """Ends the line before its ends have gone."""
+        self.is_stopped = True
+        self.thread.join(timeout=30)
 
     def require_running(self):
         if not self.thread.is_alive() or len(self.sources) < 2:

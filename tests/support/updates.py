@@ -3,6 +3,7 @@ import os
 import subprocess
 import tempfile
 import time
+import tty
 
 from support.examples import DEVICE
 from support.lossy import LossyLine
@@ -79,6 +80,8 @@ class UpdatedDevice:
     def serve(self, *words, takes_updates=True):
         """Starts the device at its end of the line."""
         end = self.line.ends[0]
+        if not takes_updates:
+            tty.setraw(end)  # reads wait: one without a byte is the end of its input
         front = [self.program, "serve", "--device", self.device]
         front += ["--firmware", self.firmware] if takes_updates else []
         how = {"stdin": end, "stdout": end, "stderr": subprocess.DEVNULL}

@@ -96,7 +96,15 @@ impl End {
             pldm_types: 1 << command::FIRMWARE_UPDATE | 1 << READ_TYPE,
             ..EndpointSettings::ZERO
         };
-        let peer = PeerSettings { device, tries: 8, keep_ms: 500, timeout_ms: 50 };
+        let peer = PeerSettings {
+            device,
+            tries: 8,
+            brief: false,
+            keep_ms: 500,
+            timeout_ms: 50,
+            lifetime_ms: 0,
+            window: 0,
+        };
         number(with_memory(|| self.terminus.make(&settings, &peer, moment(0), moment(0))))
     }
 

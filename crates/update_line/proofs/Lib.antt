@@ -1,1 +1,2 @@
 mod AnswersTaken
+mod Numbers

@@ -56,9 +56,12 @@ pub struct FirmwareEnd<P: Platform, F: Flash> {
     alloc: Global,
 }
 
+/// The result of a step that failed, of which no more is told (DSP0267, "TransferComplete command").
+const GENERIC_ERROR: u8 = 0x0A;
+
 /// The result of a step: 0 for a success (DSP0267, "TransferComplete command").
 fn result_of(well: bool) -> u8 {
-    if well { 0 } else { 1 }
+    if well { 0 } else { GENERIC_ERROR }
 }
 
 /// The command that asks so.
