@@ -18,7 +18,8 @@ def times_of(keep, tries=3):
     return ("--keep", str(keep), "--timeout", str(keep // tries), "--tries", str(tries), "--no-state")
 
 
-TIMES = times_of(300)
+KEEP = 600  # twice that passes before the first request
+TIMES = times_of(KEEP)
 
 
 def write_file(path, data):
@@ -40,7 +41,7 @@ class UpdatedDevice:
     """A device with one component, whose firmware is in the file `firmware` of a folder of its own. At most two
     programs are on the line, the device and an agent; they end with it."""
 
-    def __init__(self, program, firmware, keep=300, added=""):
+    def __init__(self, program, firmware, keep=KEEP, added=""):
         """The text `added` comes behind the device's description."""
         self.program = program
         self.room = tempfile.TemporaryDirectory()
@@ -78,10 +79,11 @@ class UpdatedDevice:
         return read_file(f"{self.firmware}.part")
 
     def serve(self, *words, takes_updates=True):
-        """Starts the device at its end of the line."""
+        """Starts the device at its end of the line. One that takes no updates has nothing to ask: for it a read that
+        gives nothing is the line's end, so its reads wait."""
         end = self.line.ends[0]
         if not takes_updates:
-            tty.setraw(end)  # reads wait: one without a byte is the end of its input
+            tty.setraw(end)
         front = [self.program, "serve", "--device", self.device]
         front += ["--firmware", self.firmware] if takes_updates else []
         how = {"stdin": end, "stdout": end, "stderr": subprocess.DEVNULL}

@@ -236,6 +236,7 @@ fn session_failed(rt: &HostRuntime, on: &Line<'_>, fault: &SessionFault) -> u8
             match fault {
                 SessionFault::Offer(_)
                 | SessionFault::Refused(_, _)
+                | SessionFault::NotTaken(_)
                 | SessionFault::NotRead(_)
                 | SessionFault::Ended(_) => REFUSED,
                 _ => FAILED,

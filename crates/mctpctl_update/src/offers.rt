@@ -10,6 +10,10 @@ use std::alloc::{AllocError, Global};
 use thiserror::Error;
 use update_line::Offer;
 
+/// The option that an image is taken whatever the device has now, of a package and of UpdateComponent (DSP0267,
+/// "UpdateComponent command").
+const FORCE: u16 = 1;
+
 /// What is known of an image that stands in no package.
 #[derive(Clone, Copy, Debug)]
 pub struct ImageOptions<'a> {
@@ -67,6 +71,23 @@ pub fn offers_for<'f>(
             Some(record) => package_offers(alloc, package, &record, parameters),
             None => Err(OfferFault::NoRecord),
         },
+    }
+}
+
+/// The version of all that a file offers to a device: that of a package's record for it, or the image's own. `None` where
+/// there is no such record, or the version has more than 255 bytes.
+pub(crate) fn version_for(
+    brought: &Brought<'_>,
+    options: &ImageOptions<'_>,
+    identifiers: &DeviceIdentifiers,
+) -> Option<VersionString> {
+    match brought {
+        Brought::Image(_) => VersionString::new(1, options.version.as_bytes()),
+        Brought::Package(package) => {
+            let record = package.record_for(identifiers)?;
+            let version = record.version();
+            VersionString::new(version.string_type(), version.text())
+        }
     }
 }
 
@@ -171,7 +192,7 @@ fn package_offer<'f>(
     Ok(Offer {
         component,
         comparison_stamp: image.comparison_stamp(),
-        option_flags: u32::from(image.options()),
+        option_flags: u32::from(image.options() & FORCE),
         version,
         image: bytes,
     })

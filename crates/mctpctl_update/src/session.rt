@@ -4,7 +4,7 @@ ghost use Rattle.std.specs.Prelude.{OnOk};
 ghost use Rattle.mctpctl_input.specs.Ports.{BothWork};
 
 use crate::brought::Brought;
-use crate::offers::{ImageOptions, OfferFault, offers_for};
+use crate::offers::{ImageOptions, OfferFault, offers_for, version_for};
 use crate::progress::Progress;
 use crate::questions::{ask_identifiers, ask_parameters};
 use crate::texts::{component_text, identity_text, request_name};
@@ -12,7 +12,8 @@ use mctpctl_input::Port;
 use pldm_line::{Ticks, Watch};
 use pldm_requester::Openings;
 use pldm_terminus::Terminus;
-use pldm_update::{AgentStage, VersionString};
+use pldm_update::AgentStage;
+use pldm_wire::SUCCESS;
 use std::alloc::AllocError;
 use std::io::{ErrorKind, Read, Write};
 use thiserror::Error;
@@ -50,6 +51,9 @@ pub enum SessionFault {
     /// The device refused this with a completion code.
     #[error("{0}: refused with the completion code {1:#04x}")]
     Refused(&'static str, u8),
+    /// The device says that it cannot take a component by this request.
+    #[error("{0}: the component cannot be updated")]
+    NotTaken(&'static str),
     /// The answer to this question could not be read.
     #[error("{0}: the answer cannot be read")]
     NotRead(&'static str),
@@ -138,8 +142,7 @@ pub fn bring<C: Ticks, L: Watch, R: Read, W: Write, O: Write, K: Keeps>(
     if job.dry_run {
         return print("the file is for this device\n", out);
     }
-    let version = VersionString::new(1, job.options.version.as_bytes());
-    let Some(version) = version else {
+    let Some(version) = version_for(&job.brought, &job.options, &identifiers) else {
         return Err(SessionFault::Offer(OfferFault::Version));
     };
     let Some(agent) = AgentEnd::new(end, &offers, version, line.last.get()) else {
@@ -165,6 +168,7 @@ fn follow<C: Ticks, L: Watch, R: Read, W: Write, O: Write, K: Keeps>(
     let mut agent = agent;
     let mut progress = Progress::new(rt, job.has_progress);
     let mut stage = agent.stage();
+    let mut last = stage; // before it was cancelled
     for _ in 0..u64::MAX {
         if agent.asks() {
             keep_next(&agent.end, line.last.get(), keeper)?;
@@ -180,9 +184,12 @@ fn follow<C: Ticks, L: Watch, R: Read, W: Write, O: Write, K: Keeps>(
             progress.begin(line.last.get());
         }
         if let AgentStage::Over(well) = next {
-            return over(&agent, stage, well);
+            return over(&agent, last, well);
         }
         stage = next;
+        if stage != AgentStage::Cancelling {
+            last = stage;
+        }
         if let AgentStage::Serving(number) = stage {
             let size = size_of(offers, number);
             progress.show(line.last.get(), agent.reached, size);
@@ -205,6 +212,9 @@ fn over(agent: &AgentEnd<'_>, before: AgentStage, well: bool) -> Result<(), Sess
         return Ok(());
     }
     match agent.refusal {
+        Some(refusal) if refusal.code == SUCCESS => {
+            Err(SessionFault::NotTaken(request_name(refusal.request)))
+        }
         Some(refusal) => Err(SessionFault::Refused(request_name(refusal.request), refusal.code)),
         None => Err(SessionFault::Ended(stage_name(before))),
     }

@@ -5,7 +5,7 @@ ghost use Rattle.pldm_terminus.specs.Askings.{CameBefore};
 ghost use Rattle.pldm_update.specs.Agents.{wish_at};
 
 use crate::exchanges::{moment_at, open, refuse, refused, reply_of, respond, response_to};
-use crate::offer::Offer;
+use crate::offer::{Offer, again};
 use crate::update_end::{Reply, Sending, UpdateEnd};
 use bus_endpoint::BusStep;
 use mctp_packet::{Body, Memory, Moment, Packets};
@@ -59,14 +59,6 @@ fn part_of(number: u16, total: usize) -> TablePart {
         (true, false) => TablePart::Start,
         (false, false) => TablePart::Middle,
         (false, true) => TablePart::End,
-    }
-}
-
-/// The same version once more.
-fn again(version: &VersionString) -> VersionString {
-    match VersionString::new(version.string_type(), version.text()) {
-        Some(version) => version,
-        None => VersionString::new(0, &[]).unwrap(),
     }
 }
 

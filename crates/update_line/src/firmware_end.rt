@@ -9,6 +9,7 @@ ghost use Rattle.update_line.specs.OwnAnswers.{response_in};
 
 use crate::exchanges::{answered, moment_at, open, refused, reply_of, respond, response_to};
 use crate::flash::Flash;
+use crate::offer::again;
 use crate::parameters::parameters_of;
 use crate::type_answers::with_updates;
 use crate::update_end::{Reply, Sending, UpdateEnd};
@@ -19,8 +20,9 @@ use pldm_platform::Platform;
 use pldm_requester::Got;
 use pldm_terminus::{Terminus, TerminusStep};
 use pldm_update::{
-    Component, DeviceIdentifiers, DeviceRequest, FirmwareDevice, FirmwareIdentity, FlashStep,
-    UNABLE_TO_INITIATE_UPDATE, UpdateAnswer, UpdateCommand, VersionString, read_update_command,
+    Component, DeviceIdentifiers, DeviceRequest, FirmwareDevice, FirmwareIdentity, FlashAction,
+    FlashStep, UNABLE_TO_INITIATE_UPDATE, UpdateAnswer, UpdateCommand, VersionString,
+    read_update_command,
 };
 use pldm_wire::Code;
 use std::alloc::Global;
@@ -51,7 +53,9 @@ pub struct FirmwareEnd<P: Platform, F: Flash> {
     pub settings: FirmwareSettings,
     /// What it says of itself.
     pub identity: FirmwareIdentity,
-    /// The version of the image that is transferred, and active after its activation.
+    /// The version of the image that is transferred.
+    pub coming: VersionString,
+    /// The version of the image that was applied last, which is active after its activation.
     pub next: VersionString,
     alloc: Global,
 }
@@ -111,6 +115,7 @@ impl<P: Platform, F: Flash> FirmwareEnd<P, F> {
         ensures identifiers { result.identity.identifiers ≡ identifiers }
     {
         let parameters = parameters_of(settings.component, &active);
+        let coming = again(&active);
         let identity = FirmwareIdentity {
             identifiers,
             parameters,
@@ -122,6 +127,7 @@ impl<P: Platform, F: Flash> FirmwareEnd<P, F> {
             flash,
             settings,
             identity,
+            coming,
             next: active,
             alloc,
         }
@@ -190,17 +196,13 @@ impl<P: Platform, F: Flash> FirmwareEnd<P, F> {
         }
     }
 
-    /// Notes the version of an image that is transferred, and that it is active.
+    /// Notes the version of an image that is transferred, and that what was applied is active.
     fn note(&mut self, command: &UpdateCommand)
         ensures machine { self.new.machine ≡ self.old.machine }
         ensures flash { self.new.flash ≡ self.old.flash }
     {
         match command {
-            UpdateCommand::UpdateComponent { version, .. } => {
-                if let Some(next) = VersionString::new(version.string_type(), version.text()) {
-                    self.next = next;
-                }
-            }
+            UpdateCommand::UpdateComponent { version, .. } => self.coming = again(version),
             UpdateCommand::ActivateFirmware { .. } => {
                 self.identity.parameters = parameters_of(self.settings.component, &self.next);
             }
@@ -223,6 +225,9 @@ impl<P: Platform, F: Flash> FirmwareEnd<P, F> {
         let data = response.data();
         if let Some(step) = self.machine.answered(number, now, response.code(), data) {
             work(&mut self.machine, &mut self.flash, step, data);
+            if step.action == FlashAction::Apply {
+                self.next = again(&self.coming);
+            }
         }
     }
 }

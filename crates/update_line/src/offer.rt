@@ -27,3 +27,11 @@ impl Offer<'_> {
         u32::try_from(self.image.len()).unwrap_or(u32::MAX)
     }
 }
+
+/// The same version once more.
+pub(crate) fn again(version: &VersionString) -> VersionString {
+    match VersionString::new(version.string_type(), version.text()) {
+        Some(version) => version,
+        None => VersionString::new(0, &[]).unwrap(),
+    }
+}
