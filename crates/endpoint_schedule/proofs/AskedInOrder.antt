@@ -11,7 +11,8 @@ use Rattle.pldm_responder.specs.Events.{is_busy}
 use Rattle.pldm_responder.specs.Performing.{Respond, Rules, answer_to, next, next_after, after_command, reply, reply_to, response_to, tasks_at, tasks_in}
 use Rattle.pldm_wire.specs.Answers.{answer_message}
 use Rattle.pldm_wire.specs.CommandReading.{command_of}
-use Rattle.pldm_wire.specs.HandingOn.{hands_on, none_handed_on}
+use Rattle.pldm_wire.specs.HandingOn.{hands_on}
+use Rattle.pldm_wire.specs.declared.pass_through.PassThrough.{PassThrough}
 use Rattle.pldm_wire.specs.Requests.{Request, request_of}
 use Rattle.pldm_wire.specs.declared.command.Command.{Command}
 use Rattle.mctp_schedule.specs.FirstArrivals.{arrives, first, is_first}
@@ -22,78 +23,78 @@ use Rattle.mctp_schedule.proofs.ListPlaces.{get_pushed, length_pushed}
 use Rattle.mctp_schedule.proofs.UntouchedRequests.{first_more}
 use Rattle.endpoint_schedule.specs.OverTime.{asks_at, asks_by, asks_device, is_some_task, reply_of, to_hand_out}
 
-abbrev pub device : (ℕ → Given) → Rules ℕ
-device answers = in_turn none_handed_on answers
+abbrev pub device : PassThrough → (ℕ → Given) → Rules ℕ
+device handed answers = in_turn handed answers
 
 -- ---- what the device gives says what a request is answered
-by_command : (answers : ℕ → Given) (count : ℕ) (r : Result Command ℕ) → answer_to (device answers) count r ≡ answer_to (gives (hands_on none_handed_on) (answers count)) tt r
-by_command answers count (Ok command) = refl
-by_command answers count (Err code) = refl
+by_command : (handed : PassThrough) (answers : ℕ → Given) (count : ℕ) (r : Result Command ℕ) → answer_to (device handed answers) count r ≡ answer_to (gives (hands_on handed) (answers count)) tt r
+by_command handed answers count (Ok command) = refl
+by_command handed answers count (Err code) = refl
 
-by_request : (answers : ℕ → Given) (count : ℕ) (q : Result Request Reason) → reply_to (device answers) count q ≡ reply_to (gives (hands_on none_handed_on) (answers count)) tt q
-by_request answers count (Ok request) = ap (λ a. if hands_on none_handed_on request.kind then response_to request (response_in (answers count)) else answer_message request.id request.kind a) (by_command answers count (command_of request.kind request.rest))
-by_request answers count (Err reason) = refl
+by_request : (handed : PassThrough) (answers : ℕ → Given) (count : ℕ) (q : Result Request Reason) → reply_to (device handed answers) count q ≡ reply_to (gives (hands_on handed) (answers count)) tt q
+by_request handed answers count (Ok request) = ap (λ a. if hands_on handed request.kind then response_to request (response_in (answers count)) else answer_message request.id request.kind a) (by_command handed answers count (command_of request.kind request.rest))
+by_request handed answers count (Err reason) = refl
 
-pub reply_is : (answers : ℕ → Given) (count : ℕ) (bytes : List ℕ) → reply (device answers) count bytes ≡ reply_of (answers count) bytes
-reply_is answers count bytes = by_request answers count (request_of bytes)
+pub reply_is : (handed : PassThrough) (answers : ℕ → Given) (count : ℕ) (bytes : List ℕ) → reply (device handed answers) count bytes ≡ reply_of handed (answers count) bytes
+reply_is handed answers count bytes = by_request handed answers count (request_of bytes)
 
 -- and where it asks nothing of it, whatever it gives
-refused_command : (answers : ℕ → Given) (count : ℕ) (r : Result Command ℕ) → is_some_task (tasks_in r) ≡ false → answer_to (device answers) count r ≡ answer_to (gives (hands_on none_handed_on) unasked) tt r
-refused_command answers count (Ok command) none = absurd (cc)
-refused_command answers count (Err code) none = refl
+refused_command : (handed : PassThrough) (answers : ℕ → Given) (count : ℕ) (r : Result Command ℕ) → is_some_task (tasks_in r) ≡ false → answer_to (device handed answers) count r ≡ answer_to (gives (hands_on handed) unasked) tt r
+refused_command handed answers count (Ok command) none = absurd (cc)
+refused_command handed answers count (Err code) none = refl
 
-refused_request : (answers : ℕ → Given) (count : ℕ) (q : Result Request Reason) → is_some_task (tasks_at (hands_on none_handed_on) q) ≡ false → reply_to (device answers) count q ≡ reply_to (gives (hands_on none_handed_on) unasked) tt q
-refused_request answers count (Err reason) none = refl
-refused_request answers count (Ok request) none = go (hands_on none_handed_on request.kind) none
+refused_request : (handed : PassThrough) (answers : ℕ → Given) (count : ℕ) (q : Result Request Reason) → is_some_task (tasks_at (hands_on handed) q) ≡ false → reply_to (device handed answers) count q ≡ reply_to (gives (hands_on handed) unasked) tt q
+refused_request handed answers count (Err reason) none = refl
+refused_request handed answers count (Ok request) none = go (hands_on handed request.kind) none
   where
     go : (t : Bool) → is_some_task (if t then Respond request ∷ [] else tasks_in (command_of request.kind request.rest)) ≡ false
-        → (if t then response_to request (response_in (answers count)) else answer_message request.id request.kind (answer_to (device answers) count (command_of request.kind request.rest)))
-        ≡ (if t then response_to request (response_in unasked) else answer_message request.id request.kind (answer_to (gives (hands_on none_handed_on) unasked) tt (command_of request.kind request.rest)))
+        → (if t then response_to request (response_in (answers count)) else answer_message request.id request.kind (answer_to (device handed answers) count (command_of request.kind request.rest)))
+        ≡ (if t then response_to request (response_in unasked) else answer_message request.id request.kind (answer_to (gives (hands_on handed) unasked) tt (command_of request.kind request.rest)))
     go true is = absurd (cc)
-    go false is = ap (answer_message request.id request.kind) (refused_command answers count (command_of request.kind request.rest) is)
+    go false is = ap (answer_message request.id request.kind) (refused_command handed answers count (command_of request.kind request.rest) is)
 
-pub refusal_is : (answers : ℕ → Given) (count : ℕ) (bytes : List ℕ) → asks_device bytes ≡ false → reply (device answers) count bytes ≡ reply_of unasked bytes
-refusal_is answers count bytes none = refused_request answers count (request_of bytes) none
+pub refusal_is : (handed : PassThrough) (answers : ℕ → Given) (count : ℕ) (bytes : List ℕ) → asks_device handed bytes ≡ false → reply (device handed answers) count bytes ≡ reply_of handed unasked bytes
+refusal_is handed answers count bytes none = refused_request handed answers count (request_of bytes) none
 
 -- ---- its state counts what was asked
-counts_command : (answers : ℕ → Given) (count : ℕ) (r : Result Command ℕ) → after_command (device answers) count r ≡ (if is_some_task (tasks_in r) then count + 1 else count)
-counts_command answers count (Ok command) = refl
-counts_command answers count (Err code) = refl
+counts_command : (handed : PassThrough) (answers : ℕ → Given) (count : ℕ) (r : Result Command ℕ) → after_command (device handed answers) count r ≡ (if is_some_task (tasks_in r) then count + 1 else count)
+counts_command handed answers count (Ok command) = refl
+counts_command handed answers count (Err code) = refl
 
-counts_request : (answers : ℕ → Given) (count : ℕ) (q : Result Request Reason) → next_after (device answers) count q ≡ (if is_some_task (tasks_at (hands_on none_handed_on) q) then count + 1 else count)
-counts_request answers count (Err reason) = refl
-counts_request answers count (Ok request) = go (hands_on none_handed_on request.kind)
+counts_request : (handed : PassThrough) (answers : ℕ → Given) (count : ℕ) (q : Result Request Reason) → next_after (device handed answers) count q ≡ (if is_some_task (tasks_at (hands_on handed) q) then count + 1 else count)
+counts_request handed answers count (Err reason) = refl
+counts_request handed answers count (Ok request) = go (hands_on handed request.kind)
   where
-    go : (t : Bool) → (if t then count + 1 else after_command (device answers) count (command_of request.kind request.rest)) ≡ (if is_some_task (if t then Respond request ∷ [] else tasks_in (command_of request.kind request.rest)) then count + 1 else count)
+    go : (t : Bool) → (if t then count + 1 else after_command (device handed answers) count (command_of request.kind request.rest)) ≡ (if is_some_task (if t then Respond request ∷ [] else tasks_in (command_of request.kind request.rest)) then count + 1 else count)
     go true = refl
-    go false = counts_command answers count (command_of request.kind request.rest)
+    go false = counts_command handed answers count (command_of request.kind request.rest)
 
 one_more : (asks : Bool) (n k : ℕ) (xs : List ℕ) → n ≡ length xs → (if asks then n + 1 else n) ≡ length (if asks then xs ++ k ∷ [] else xs)
 one_more true n k xs same = let l = length_pushed xs k in omega (arith, same, l)
 one_more false n k xs same = same
 
-module _ (answers : ℕ → Given) (keep : ℕ) where
+module _ (handed : PassThrough) (answers : ℕ → Given) (keep : ℕ) where
   abbrev pub count_of : List Happening → ℕ
-  count_of log = once (device answers) keep 0 log
+  count_of log = once (device handed answers) keep 0 log
 
   counted : (n k : ℕ) (xs : List ℕ) → n ≡ length xs → (o : Option Asked) (place : Option (List Happening)) (busy : Bool)
-      → (if is_first_of o place busy then next (device answers) n (bytes_of o) else n) ≡ length (if is_first_of o place busy && asks_by o then xs ++ k ∷ [] else xs)
+      → (if is_first_of o place busy then next (device handed answers) n (bytes_of o) else n) ≡ length (if is_first_of o place busy && asks_by handed o then xs ++ k ∷ [] else xs)
   counted n k xs same None place busy =
-      (λ i. if never_first place busy i then next (device answers) n [] else n) ∙ same ∙ sym (λ i. length (if never_first place busy i && false then xs ++ k ∷ [] else xs))
+      (λ i. if never_first place busy i then next (device handed answers) n [] else n) ∙ same ∙ sym (λ i. length (if never_first place busy i && false then xs ++ k ∷ [] else xs))
   counted n k xs same (Some r) place busy = go (is_first_of (Some r) place busy)
     where
-      go : (b : Bool) → (if b then next (device answers) n r.message else n) ≡ length (if b && asks_device r.message then xs ++ k ∷ [] else xs)
-      go true = counts_request answers n (request_of r.message) ∙ one_more (asks_device r.message) n k xs same
+      go : (b : Bool) → (if b then next (device handed answers) n r.message else n) ≡ length (if b && asks_device handed r.message then xs ++ k ∷ [] else xs)
+      go true = counts_request handed answers n (request_of r.message) ∙ one_more (asks_device handed r.message) n k xs same
       go false = same
 
   -- the state is how many were to be handed out
-  pub count_is : (log : List Happening) → count_of log ≡ length (to_hand_out keep log)
+  pub count_is : (log : List Happening) → count_of log ≡ length (to_hand_out handed keep log)
   count_is [] = refl
   count_is (Opened r ∷ past) = count_is past
   count_is (Sensed moment id value ∷ past) = count_is past
   count_is (WentDown moment ∷ past) = count_is past
   count_is (Delivered moment k ∷ past) =
-      counted (count_of past) k (to_hand_out keep past) (count_is past) (asked_at past k) (first ℕ keep past k) (is_busy keep (reached {S = ℕ} past) moment)
+      counted (count_of past) k (to_hand_out handed keep past) (count_is past) (asked_at past k) (first ℕ keep past k) (is_busy keep (reached {S = ℕ} past) moment)
 
   -- at a first arrival what had happened before is its place
   pub first_place : (past : List Happening) (moment k : ℕ) → is_first ℕ keep past moment k ≡ true → first ℕ keep (Delivered moment k ∷ past) k ≡ Some past
@@ -107,34 +108,34 @@ module _ (answers : ℕ → Given) (keep : ℕ) where
           first_here ℕ keep past moment k r e (not-true (is_busy keep (reached {S = ℕ} past) moment) serves) f
 
   -- one more delivery
-  by_delivery : (past : List Happening) (moment j n k : ℕ) (b : Bool) → (is_first ℕ keep past moment j && asks_at past j) ≡ b → slice_get (if b then to_hand_out keep past ++ j ∷ [] else to_hand_out keep past) n ≡ Some k
-      → (slice_get (to_hand_out keep past) n ≡ Some k → (place : List Happening) × (first ℕ keep past k ≡ Some place) × (count_of place ≡ n))
+  by_delivery : (past : List Happening) (moment j n k : ℕ) (b : Bool) → (is_first ℕ keep past moment j && asks_at handed past j) ≡ b → slice_get (if b then to_hand_out handed keep past ++ j ∷ [] else to_hand_out handed keep past) n ≡ Some k
+      → (slice_get (to_hand_out handed keep past) n ≡ Some k → (place : List Happening) × (first ℕ keep past k ≡ Some place) × (count_of place ≡ n))
       → (place : List Happening) × (first ℕ keep (Delivered moment j ∷ past) k ≡ Some place) × (count_of place ≡ n)
   by_delivery past moment j n k false off e before = let x = before e in (x.0, first_more ℕ keep (Delivered moment j) past k x.0 x.1, x.2)
   by_delivery past moment j n k true on e before =
-      let parts = and_parts (is_first ℕ keep past moment j) (asks_at past j) on in
+      let parts = and_parts (is_first ℕ keep past moment j) (asks_at handed past j) on in
       ⊎_elim
-      (λ (x : slice_get (to_hand_out keep past) n ≡ Some k). let y = before x in (y.0, first_more ℕ keep (Delivered moment j) past k y.0 y.1, y.2))
-      (λ (x : (n ≡ length (to_hand_out keep past)) × (k ≡ j)). (past, ap (first ℕ keep (Delivered moment j ∷ past)) x.1 ∙ first_place past moment j parts.0, count_is past ∙ sym x.0))
-      (get_pushed (to_hand_out keep past) j n k e)
+      (λ (x : slice_get (to_hand_out handed keep past) n ≡ Some k). let y = before x in (y.0, first_more ℕ keep (Delivered moment j) past k y.0 y.1, y.2))
+      (λ (x : (n ≡ length (to_hand_out handed keep past)) × (k ≡ j)). (past, ap (first ℕ keep (Delivered moment j ∷ past)) x.1 ∙ first_place past moment j parts.0, count_is past ∙ sym x.0))
+      (get_pushed (to_hand_out handed keep past) j n k e)
 
   -- the one of a number arrived first when that many had asked
-  pub numbered : (log : List Happening) (n k : ℕ) → slice_get (to_hand_out keep log) n ≡ Some k → (place : List Happening) × (first ℕ keep log k ≡ Some place) × (count_of place ≡ n)
+  pub numbered : (log : List Happening) (n k : ℕ) → slice_get (to_hand_out handed keep log) n ≡ Some k → (place : List Happening) × (first ℕ keep log k ≡ Some place) × (count_of place ≡ n)
   numbered [] n k is = absurd (cc)
   numbered (Opened r ∷ past) n k is = let x = numbered past n k is in (x.0, first_more ℕ keep (Opened r) past k x.0 x.1, x.2)
   numbered (Sensed moment id value ∷ past) n k is = let x = numbered past n k is in (x.0, first_more ℕ keep (Sensed moment id value) past k x.0 x.1, x.2)
   numbered (WentDown moment ∷ past) n k is = let x = numbered past n k is in (x.0, first_more ℕ keep (WentDown moment) past k x.0 x.1, x.2)
-  numbered (Delivered moment j ∷ past) n k is = by_delivery past moment j n k (is_first ℕ keep past moment j && asks_at past j) refl is (λ e. numbered past n k e)
+  numbered (Delivered moment j ∷ past) n k is = by_delivery past moment j n k (is_first ℕ keep past moment j && asks_at handed past j) refl is (λ e. numbered past n k e)
 
   -- what an arrived request is answered, by its number
-  pub reply_at : (log : List Happening) (k : ℕ) (r : Asked) (place : List Happening) → asked_at log k ≡ Some r → first ℕ keep log k ≡ Some place → the_reply (device answers) keep 0 log k ≡ reply (device answers) (count_of place) r.message
+  pub reply_at : (log : List Happening) (k : ℕ) (r : Asked) (place : List Happening) → asked_at log k ≡ Some r → first ℕ keep log k ≡ Some place → the_reply (device handed answers) keep 0 log k ≡ reply (device handed answers) (count_of place) r.message
   reply_at log k r place e f =
-      (λ i. reply_from (device answers) keep 0 (bytes_of (e i)) (f i))
+      (λ i. reply_from (device handed answers) keep 0 (bytes_of (e i)) (f i))
 
-  pub given_is : (log : List Happening) (n k : ℕ) (r : Asked) → asked_at log k ≡ Some r → slice_get (to_hand_out keep log) n ≡ Some k → the_reply (device answers) keep 0 log k ≡ reply_of (answers n) r.message
+  pub given_is : (log : List Happening) (n k : ℕ) (r : Asked) → asked_at log k ≡ Some r → slice_get (to_hand_out handed keep log) n ≡ Some k → the_reply (device handed answers) keep 0 log k ≡ reply_of handed (answers n) r.message
   given_is log n k r e is =
       let x = numbered log n k is in
-      reply_at log k r x.0 e x.1 ∙ ap (λ c. reply (device answers) c r.message) x.2 ∙ reply_is answers n r.message
+      reply_at log k r x.0 e x.1 ∙ ap (λ c. reply (device handed answers) c r.message) x.2 ∙ reply_is handed answers n r.message
 
-  pub refused_is : (log : List Happening) (k : ℕ) (r : Asked) (place : List Happening) → asked_at log k ≡ Some r → first ℕ keep log k ≡ Some place → asks_device r.message ≡ false → the_reply (device answers) keep 0 log k ≡ reply_of unasked r.message
-  refused_is log k r place e f none = reply_at log k r place e f ∙ refusal_is answers (count_of place) r.message none
+  pub refused_is : (log : List Happening) (k : ℕ) (r : Asked) (place : List Happening) → asked_at log k ≡ Some r → first ℕ keep log k ≡ Some place → asks_device handed r.message ≡ false → the_reply (device handed answers) keep 0 log k ≡ reply_of handed unasked r.message
+  refused_is log k r place e f none = reply_at log k r place e f ∙ refusal_is handed answers (count_of place) r.message none

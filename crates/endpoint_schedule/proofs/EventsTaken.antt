@@ -8,17 +8,17 @@ use Rattle.endpoint_schedule.specs.EventDevices.{EventDevice, KeepsEvents}
 use Rattle.endpoint_schedule.specs.EventLaws.{EventsOverSchedules}
 use Rattle.endpoint_schedule.specs.EventReceiving.{AsksAsReceiver, AsksInTurn, Following, following, gone_on, opens, settled, with_action, with_open}
 use Rattle.endpoint_schedule.specs.RecentDeliveries.{ComesWhileRecent}
-use Rattle.mctp_schedule.specs.Logs.{Asked, Happening, Opened, asked_at}
+use Rattle.mctp_schedule.specs.Logs.{Asked, Happening, Opened, asked_at, endpoint_of}
 use Rattle.mctp_schedule.specs.RequesterHalf.{AnsweredWasPerformed, IsTimelySchedule}
 use Rattle.mctp_schedule.specs.Worlds.{BothEnds, IsTimelyAction, World, asked_by, busy_packet, done, handed, reply_packet, requests_of, source_of, timing_of, with_call, world}
 use Rattle.mctp_schedule.proofs.LogsAndCalls.{received_count}
-use Rattle.pldm_requester.specs.Calls.{Call, Open, Receive, Requests, Tick, accepts, opened, requests}
+use Rattle.pldm_requester.specs.Asks.{Ask}
+use Rattle.pldm_requester.specs.Calls.{Call, OpenRequest, Receive, Requests, Tick, accepts, opened_for, requests}
 use Rattle.pldm_requester.specs.Courses.{Progress, Waiting, Answered, GaveUp}
 use Rattle.pldm_wire.specs.declared.assigned.TheConstants.{INSTANCE_IDS}
-use Rattle.pldm_wire.specs.declared.command.Command.{Command}
-use Rattle.schedule_text.specs.declared.step.Action.{Action}
-use Rattle.schedule_text.specs.declared.step.Action.TheVariants as actions
-use Rattle.schedule_text.specs.declared.step.Step.{Step}
+use Rattle.mctp_schedule.specs.Actions.{Action}
+use Rattle.mctp_schedule.specs.Actions as actions
+use Rattle.mctp_schedule.specs.Actions.{Step}
 use Rattle.endpoint_schedule.proofs.FollowedRuns.{Runs, delivered, ew, given_at, given_to, not_some, state, was_sensed, went_down}
 use Rattle.endpoint_schedule.proofs.OpenedRuns.{answered, given_up, opened_elsewhere, opened_here}
 
@@ -37,62 +37,62 @@ module _ {S : Type 0} (setting : BothEnds S) (events : EventDevice S) (e most fi
 
   -- ---- how many requests there are after a call
   abbrev after : World → ℕ → Call → ℕ
-  after w d call = (requests d setting.eid (timing_of setting d) setting.pace (call ∷ w.calls d)).count
+  after w d call = (requests (endpoint_of d) setting.eid (timing_of setting d) setting.pace (call ∷ w.calls d)).count
 
   count_kept : (w : World) (at : ℕ) (call : Call) (log : List Happening)
       → (e ≡ at → after w e call ≡ counted w)
       → counted (record { calls = with_call w.calls at call; log = log }) ≡ counted w
   count_kept w at call log kept = go (e == at) refl
     where
-      go : (b : Bool) → (e == at) ≡ b → (requests e setting.eid (timing_of setting e) setting.pace (if b then call ∷ w.calls e else w.calls e)).count ≡ counted w
+      go : (b : Bool) → (e == at) ≡ b → (requests (endpoint_of e) setting.eid (timing_of setting e) setting.pace (if b then call ∷ w.calls e else w.calls e)).count ≡ counted w
       go true t = kept (eqb-true e at t)
       go false t = refl
 
-  count_more : (w : World) (at moment : ℕ) (command : Command) (log : List Happening) → e ≡ at
+  count_more : (w : World) (at moment : ℕ) (ask : Ask) (log : List Happening) → e ≡ at
       → accepts (timing_of setting at).keep setting.pace (requests_of setting w at) moment ≡ true
-      → counted (record { calls = with_call w.calls at (Open moment command); log = log }) ≡ suc (counted w)
-  count_more w at moment command log same accepted = go (e == at) refl
+      → counted (record { calls = with_call w.calls at (OpenRequest moment ask); log = log }) ≡ suc (counted w)
+  count_more w at moment ask log same accepted = go (e == at) refl
     where
       here : accepts (timing_of setting e).keep setting.pace (requests_of setting w e) moment ≡ true
       here = subst (λ d. accepts (timing_of setting d).keep setting.pace (requests_of setting w d) moment ≡ true) (sym same) accepted
 
-      go : (b : Bool) → (e == at) ≡ b → (requests e setting.eid (timing_of setting e) setting.pace (if b then Open moment command ∷ w.calls e else w.calls e)).count ≡ suc (counted w)
-      go true t = ap (λ (a : Requests). a.count) (cond-true (accepts (timing_of setting e).keep setting.pace (requests_of setting w e) moment) (opened (requests_of setting w e) moment command) (requests_of setting w e) here)
+      go : (b : Bool) → (e == at) ≡ b → (requests (endpoint_of e) setting.eid (timing_of setting e) setting.pace (if b then OpenRequest moment ask ∷ w.calls e else w.calls e)).count ≡ suc (counted w)
+      go true t = ap (λ (a : Requests). a.count) (cond-true (accepts (timing_of setting e).keep setting.pace (requests_of setting w e) moment) (opened_for (requests_of setting w e) moment ask) (requests_of setting w e) here)
       go false t = absurd (eqb-false e at t same)
 
-  count_refused : (w : World) (at moment : ℕ) (command : Command)
-      → accepts (timing_of setting at).keep setting.pace (requests_of setting w at) moment ≡ false → e ≡ at → after w e (Open moment command) ≡ counted w
-  count_refused w at moment command refused same =
+  count_refused : (w : World) (at moment : ℕ) (ask : Ask)
+      → accepts (timing_of setting at).keep setting.pace (requests_of setting w at) moment ≡ false → e ≡ at → after w e (OpenRequest moment ask) ≡ counted w
+  count_refused w at moment ask refused same =
       let here = subst (λ d. accepts (timing_of setting d).keep setting.pace (requests_of setting w d) moment ≡ false) (sym same) refused in
-      ap (λ (a : Requests). a.count) (cond-false (accepts (timing_of setting e).keep setting.pace (requests_of setting w e) moment) (opened (requests_of setting w e) moment command) (requests_of setting w e) here)
+      ap (λ (a : Requests). a.count) (cond-false (accepts (timing_of setting e).keep setting.pace (requests_of setting w e) moment) (opened_for (requests_of setting w e) moment ask) (requests_of setting w e) here)
 
   -- ---- an open
-  module _ (w : World) (f : Following) (moment at : ℕ) (command : Command) (x : R w.log (counted w) f) (turn : AsksAsReceiver setting events e w f moment (actions.Open at command)) where
+  module _ (w : World) (f : Following) (moment at : ℕ) (ask : Ask) (x : R w.log (counted w) f) (turn : AsksAsReceiver setting events e w f moment (actions.Open at ask)) where
     abbrev now : World
-    now = done setting w moment (actions.Open at command)
+    now = done setting w moment (actions.Open at ask)
 
     abbrev ok : Bool
     ok = accepts (timing_of setting at).keep setting.pace (requests_of setting w at) moment
 
     abbrev new : Asked
-    new = asked_by setting w moment at command
+    new = asked_by setting w moment at ask
 
-    opens_so : (b : Bool) → ok ≡ b → (c : Bool) → (at == e) ≡ c → R now.log (counted now) (with_action setting events e w f moment (actions.Open at command))
+    opens_so : (b : Bool) → ok ≡ b → (c : Bool) → (at == e) ≡ c → R now.log (counted now) (with_action setting events e w f moment (actions.Open at ask))
     opens_so false refused c is =
         same_runs w.log now.log (counted w) (counted now) f _ (cond-false ok (Opened new ∷ w.log) w.log refused)
-        (count_kept w at (Open moment command) now.log (count_refused w at moment command refused))
-        (cond-false (at == e && ok) (with_open f (requests_of setting w at).count (opens setting events e w moment at command)) f (and_right (at == e) ok refused)) x
+        (count_kept w at (OpenRequest moment ask) now.log (count_refused w at moment ask refused))
+        (cond-false (at == e && ok) (with_open f (requests_of setting w at).count (opens setting events e w moment at ask)) f (and_right (at == e) ok refused)) x
     opens_so true accepted false is =
         let other = eqb-false at e is in
         same_runs (Opened new ∷ w.log) now.log (counted w) (counted now) f _ (cond-true ok (Opened new ∷ w.log) w.log accepted)
-        (count_kept w at (Open moment command) now.log (λ same. absurd (other (sym same))))
-        (ap (λ b. if b && ok then with_open f (requests_of setting w at).count (opens setting events e w moment at command) else f) is)
+        (count_kept w at (OpenRequest moment ask) now.log (λ same. absurd (other (sym same))))
+        (ap (λ b. if b && ok then with_open f (requests_of setting w at).count (opens setting events e w moment at ask) else f) is)
         (opened_elsewhere setting events e most first_id w.log new (counted w) f other (λ request asks. other (turn request accepted asks).0) x)
     opens_so true accepted true is =
         let same = eqb-true at e is in
-        let o = opens setting events e w moment at command in
+        let o = opens setting events e w moment at ask in
         same_runs (Opened new ∷ w.log) now.log (suc (counted w)) (counted now) (with_open f (counted w) o) _ (cond-true ok (Opened new ∷ w.log) w.log accepted)
-        (count_more w at moment command now.log (sym same) accepted)
+        (count_more w at moment ask now.log (sym same) accepted)
         (ap (λ b. if b && ok then with_open f (requests_of setting w at).count o else f) is
         ∙ ap (λ b. if b then with_open f (requests_of setting w at).count o else f) accepted
         ∙ ap (λ d. with_open f (requests_of setting w d).count o) same)
@@ -103,7 +103,7 @@ module _ {S : Type 0} (setting : BothEnds S) (events : EventDevice S) (e most fi
   handed_so w f moment at None x = x
   handed_so w f moment at (Some bytes) x =
       same_runs w.log w.log (counted w) _ f f refl
-      (count_kept w at (Receive moment bytes) w.log (λ same. received_count e setting.eid (timing_of setting e) (requests_of setting w e) bytes))
+      (count_kept w at (Receive moment bytes) w.log (λ same. received_count (endpoint_of e) setting.eid (timing_of setting e) (requests_of setting w e) bytes))
       refl x
 
   -- ---- each action
@@ -111,8 +111,8 @@ module _ {S : Type 0} (setting : BothEnds S) (events : EventDevice S) (e most fi
       → ((k : ℕ) → action ≡ actions.Request k → (r : Asked) → asked_at w.log k ≡ Some r → r.source ≡ e → counted w ≤ r.own + INSTANCE_IDS)
       → AsksAsReceiver setting events e w f moment action → R w.log (counted w) f
       → R (done setting w moment action).log (counted (done setting w moment action)) (with_action setting events e w f moment action)
-  acts keeps w f moment (actions.Open at command) recent turn x =
-      opens_so w f moment at command x turn (accepts (timing_of setting at).keep setting.pace (requests_of setting w at) moment) refl (at == e) refl
+  acts keeps w f moment (actions.Open at ask) recent turn x =
+      opens_so w f moment at ask x turn (accepts (timing_of setting at).keep setting.pace (requests_of setting w at) moment) refl (at == e) refl
   acts keeps w f moment (actions.Tick at) recent turn x =
       same_runs w.log w.log (counted w) _ f f refl (count_kept w at (Tick moment) w.log (λ same. refl)) refl x
   acts keeps w f moment (actions.Request k) recent turn x = delivered setting events e most first_id keeps w.log moment k (counted w) f (recent k refl) x

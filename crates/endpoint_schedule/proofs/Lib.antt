@@ -10,3 +10,5 @@ pub mod FollowedRuns
 pub mod OpenedRuns
 pub mod EventsTaken
 pub mod WorkedEvents
+pub mod OfferedImages
+mod WorkedImages

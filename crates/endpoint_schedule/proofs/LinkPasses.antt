@@ -23,10 +23,10 @@ use Rattle.pldm_responder.specs.Performing.{Task, tasks_of}
 use Rattle.pldm_responder.specs.ResponderStates.{IsHeld, ResponderState}
 use Rattle.pldm_responder.specs.Steps.{arrival_asks, received_arrival}
 use Rattle.pldm_responder.proofs.CallsLookBack.{passed_brings}
-use Rattle.pldm_wire.specs.HandingOn.{hands_on, none_handed_on}
+use Rattle.pldm_wire.specs.HandingOn.{hands_on}
 use Rattle.pldm_wire.specs.declared.restart_policy.RestartPolicy.TheVariants.{All}
 use Rattle.mctp_schedule.specs.Logs.{reached}
-use Rattle.schedule_text.specs.declared.step.Step.{Step}
+use Rattle.mctp_schedule.specs.Actions.{Step}
 use Rattle.endpoint_schedule.specs.Links.{Link, LinkSettings}
 use Rattle.endpoint_schedule.proofs.LinkReceives.{Laws}
 use Rattle.endpoint_schedule.proofs.LinkState.{Holds, stays_scheduled}
@@ -55,14 +55,14 @@ module _ (settings : LinkSettings) (answers : ℕ → Given) (laws : Laws) (l : 
   calls = holds.end.calls
 
   abbrev LeftBy : ℕ → map.FinMap request_key_cmp PendingCommand → ResponderState (Unit {0}) → List (Call ℕ) → Type 0
-  LeftBy = IsLeftByParts holds.end.own none_handed_on All settings.window settings.keep answers
+  LeftBy = IsLeftByParts holds.end.own settings.handed_on All settings.window settings.keep answers
 
   parts : LeftBy l.end.count l.end.pending held calls
   parts = holds.end.parts
 
   -- ---- it asks nothing
-  none_asked : asked_now none_handed_on held moment bytes ≡ []
-  none_asked = asks_nothing held (tasks_of (hands_on none_handed_on)) (received_arrival held moment bytes) none
+  none_asked : asked_now settings.handed_on held moment bytes ≡ []
+  none_asked = asks_nothing held (tasks_of (hands_on settings.handed_on)) (received_arrival held moment bytes) none
 
   same_count : new.count ≡ l.end.count
   same_count =
@@ -72,7 +72,7 @@ module _ (settings : LinkSettings) (answers : ℕ → Given) (laws : Laws) (l : 
   same_pending : new.pending ≡ l.end.pending
   same_pending =
       has.pending ∙ ap (λ h. pending_after h held moment bytes l.end.pending l.end.count) holds.end.handed_on
-      ∙ ap (λ m. pending_by l.end.pending l.end.count m (asked_now none_handed_on held moment bytes)) none
+      ∙ ap (λ m. pending_by l.end.pending l.end.count m (asked_now settings.handed_on held moment bytes)) none
 
   -- ---- what the endpoint holds
   abbrev calls_now : List (Call ℕ)
@@ -80,22 +80,22 @@ module _ (settings : LinkSettings) (answers : ℕ → Given) (laws : Laws) (l : 
 
   ended_parts : (ended : Option Key) (count : ℕ) (pending : map.FinMap request_key_cmp PendingCommand) (h : ResponderState (Unit {0})) (cs : List (Call ℕ)) → LeftBy count pending h cs → LeftBy count pending (ended_held ended h) (with_ended ended cs)
   ended_parts None count pending h cs x = x
-  ended_parts (Some key) count pending h cs x = ended_in_turn laws.forgets holds.end.own none_handed_on All settings.window settings.keep answers count pending h cs key x
+  ended_parts (Some key) count pending h cs x = ended_in_turn laws.forgets holds.end.own settings.handed_on All settings.window settings.keep answers count pending h cs key x
 
   abbrev held_now : ResponderState (Unit {0})
-  held_now = ended_held (ended_by l.end.end bytes) (held_after none_handed_on held moment bytes)
+  held_now = ended_held (ended_by l.end.end bytes) (held_after settings.handed_on held moment bytes)
 
-  parts_passed : LeftBy (count_after none_handed_on held moment bytes l.end.count) (pending_after none_handed_on held moment bytes l.end.pending l.end.count) held_now calls_now
+  parts_passed : LeftBy (count_after settings.handed_on held moment bytes l.end.count) (pending_after settings.handed_on held moment bytes l.end.pending l.end.count) held_now calls_now
   parts_passed =
       ended_parts (ended_by l.end.end bytes) _ _ _ (Received moment bytes ∷ calls)
-      (received_in_turn laws.feeds holds.end.own none_handed_on All settings.window settings.keep answers l.end.count l.end.pending held calls moment bytes parts (free_where_accepted l.end moment bytes has.accepted))
+      (received_in_turn laws.feeds holds.end.own settings.handed_on All settings.window settings.keep answers l.end.count l.end.pending held calls moment bytes parts (free_where_accepted l.end moment bytes has.accepted))
 
   parts_now : LeftBy new.count new.pending (held_in new) calls_now
   parts_now =
-      same_in_turn holds.end.own none_handed_on All settings.window settings.keep answers new.count new.pending (held_in new) held_now calls_now
+      same_in_turn holds.end.own settings.handed_on All settings.window settings.keep answers new.count new.pending (held_in new) held_now calls_now
       (subst (λ h. IsHeld (held_in new) (ended_held (ended_by l.end.end bytes) (held_after h held moment bytes))) holds.end.handed_on has.held)
       (subst (λ n. LeftBy n new.pending held_now calls_now) (sym (has.count ∙ ap (λ h. count_after h held moment bytes l.end.count) holds.end.handed_on))
-      (subst (λ p. LeftBy (count_after none_handed_on held moment bytes l.end.count) p held_now calls_now) (sym (has.pending ∙ ap (λ h. pending_after h held moment bytes l.end.pending l.end.count) holds.end.handed_on)) parts_passed))
+      (subst (λ p. LeftBy (count_after settings.handed_on held moment bytes l.end.count) p held_now calls_now) (sym (has.pending ∙ ap (λ h. pending_after h held moment bytes l.end.pending l.end.count) holds.end.handed_on)) parts_passed))
 
   own_is : held.own ≡ holds.end.own
   own_is = parts.left.endpoint

@@ -42,22 +42,21 @@ use Rattle.pldm_responder.specs.declared.outcome.Outcome.{Outcome}
 use Rattle.pldm_responder.proofs.AskedOnce.{tasks_look_back}
 use Rattle.pldm_wire.specs.Answers.{answer_message}
 use Rattle.pldm_wire.specs.CommandReading.{command_of}
-use Rattle.pldm_wire.specs.HandingOn.{hands_on, none_handed_on}
+use Rattle.pldm_wire.specs.HandingOn.{hands_on}
 use Rattle.pldm_wire.specs.Headers.{id_at}
-use Rattle.pldm_wire.specs.Laws.{WrittenCommandReadBack}
-use Rattle.pldm_wire.specs.MessageSizes.{CommandFitsOnePacket}
 use Rattle.pldm_wire.specs.Requests.{Request, request_of}
 use Rattle.pldm_wire.specs.declared.command.Command.{Command}
+use Rattle.pldm_wire.specs.declared.pass_through.PassThrough.{PassThrough}
 use Rattle.pldm_wire.specs.declared.restart_policy.RestartPolicy.TheVariants.{All}
 use Rattle.mctp_schedule.specs.Askers.{packet_bytes}
 use Rattle.mctp_schedule.specs.Deliveries.{packets_of_outcome}
 use Rattle.mctp_schedule.specs.FirstArrivals.{arrives, arrives_at, first, has_arrived, is_first}
-use Rattle.mctp_schedule.specs.Logs.{Asked, Happening, Delivered, asked_at, last_of, message_at, reached, with_reached}
+use Rattle.mctp_schedule.specs.Logs.{Asked, Happening, Delivered, asked_at, last_of, message_at, reached, with_reached, endpoint_of}
 use Rattle.mctp_schedule.specs.OncePerformed.{FitsPackets, given}
 use Rattle.mctp_schedule.specs.Timely.{ComesInTime, IsTimelyLog}
 use Rattle.mctp_schedule.specs.Worlds.{World, done}
-use Rattle.schedule_text.specs.declared.step.Action.TheVariants as actions
-use Rattle.schedule_text.specs.declared.step.Step.{Step}
+use Rattle.mctp_schedule.specs.Actions as actions
+use Rattle.mctp_schedule.specs.Actions.{Step}
 use Rattle.mctp_schedule.proofs.AfterDelivery.{expected_busy, expected_served}
 use Rattle.mctp_schedule.proofs.AnswerPacketOutcomes.{Lower}
 use Rattle.mctp_schedule.proofs.DeliveriesExpected.{fresh_where_first, given_is_the_reply, state_is_once}
@@ -75,25 +74,23 @@ pub record Laws : Type 0 where
   pub lower : Lower
   pub spells : WrittenSpells
   pub read_for : SpelledIsReadFor
-  pub reads_back : WrittenCommandReadBack
-  pub fits : CommandFitsOnePacket
   pub feeds : assembly_laws.FeedLooksBack
   pub begins : assembly_laws.NewLooksBack
   pub forgets : assembly_laws.ForgetLooksBack
 
 -- ---- a refusal by its code fits packets
-refused_fits : (request : Request) (r : Result Command ℕ) → is_some_task (tasks_in r) ≡ false → FitsPackets (answer_message request.id request.kind (answer_to (gives (hands_on none_handed_on) unasked) tt r))
-refused_fits request (Ok command) none = absurd (cc)
-refused_fits request (Err code) none = record { some = omega arith; few = omega arith }
+refused_fits : (handed : PassThrough) (request : Request) (r : Result Command ℕ) → is_some_task (tasks_in r) ≡ false → FitsPackets (answer_message request.id request.kind (answer_to (gives (hands_on handed) unasked) tt r))
+refused_fits handed request (Ok command) none = absurd (cc)
+refused_fits handed request (Err code) none = record { some = omega arith; few = omega arith }
 
-handed_fits : (t : Bool) (request : Request) → is_some_task (if t then Respond request ∷ [] else tasks_in (command_of request.kind request.rest)) ≡ false
-    → FitsPackets (if t then response_to request (response_in unasked) else answer_message request.id request.kind (answer_to (gives (hands_on none_handed_on) unasked) tt (command_of request.kind request.rest)))
-handed_fits true request none = absurd (cc)
-handed_fits false request none = refused_fits request (command_of request.kind request.rest) none
+handed_fits : (handed : PassThrough) (t : Bool) (request : Request) → is_some_task (if t then Respond request ∷ [] else tasks_in (command_of request.kind request.rest)) ≡ false
+    → FitsPackets (if t then response_to request (response_in unasked) else answer_message request.id request.kind (answer_to (gives (hands_on handed) unasked) tt (command_of request.kind request.rest)))
+handed_fits handed true request none = absurd (cc)
+handed_fits handed false request none = refused_fits handed request (command_of request.kind request.rest) none
 
-refusal_fits : (q : Result Request Reason) (request : Request) → q ≡ Ok request → is_some_task (tasks_at (hands_on none_handed_on) q) ≡ false → FitsPackets (performing.reply_to (gives (hands_on none_handed_on) unasked) tt q)
-refusal_fits (Err reason) request e none = absurd (cc)
-refusal_fits (Ok other) request e none = handed_fits (hands_on none_handed_on other.kind) other none
+refusal_fits : (handed : PassThrough) (q : Result Request Reason) (request : Request) → q ≡ Ok request → is_some_task (tasks_at (hands_on handed) q) ≡ false → FitsPackets (performing.reply_to (gives (hands_on handed) unasked) tt q)
+refusal_fits handed (Err reason) request e none = absurd (cc)
+refusal_fits handed (Ok other) request e none = handed_fits handed (hands_on handed other.kind) other none
 
 -- ---- one more is pending
 inserted : (pending : map.FinMap request_key_cmp PendingCommand) (key other : RequestKey) (a b : PendingCommand) → map.get (map.insert pending key a) other ≡ Some b → ((other ≡ key) × (b ≡ a)) ⊎ (map.get pending other ≡ Some b)
@@ -134,7 +131,7 @@ asked_sends_none counts before k (Respond request) handle = refl
 
 module _ (settings : LinkSettings) (answers : ℕ → Given) (laws : Laws) (l : Link) (before : ℕ) (steps : List Step) (holds : Holds settings answers l before steps) (sound : IsSoundLink settings answers l)
     (moment k : ℕ) (later : before ≤ moment) (r : Asked) (asked : asked_at l.world.log k ≡ Some r) (in_time : (q : Asked) → asked_at l.world.log k ≡ Some q → ComesInTime ℕ settings.window settings.keep settings.pace.lifetime l.world.log moment k q)
-    (own_here : l.end.end.own ≡ settings.eid) (new : EndpointView) (step : endpoint_steps.Step) (has : HasReceived l.end moment (packet_bytes r.source settings.eid r.own r.message) new step) where
+    (own_here : l.end.end.own ≡ settings.eid) (new : EndpointView) (step : endpoint_steps.Step) (has : HasReceived l.end moment (packet_bytes (endpoint_of r.source) settings.eid r.own r.message) new step) where
   abbrev log : List Happening
   log = l.world.log
 
@@ -145,7 +142,7 @@ module _ (settings : LinkSettings) (answers : ℕ → Given) (laws : Laws) (l : 
   m = message_at moment r
 
   abbrev bytes : List ℕ
-  bytes = packet_bytes r.source settings.eid r.own r.message
+  bytes = packet_bytes (endpoint_of r.source) settings.eid r.own r.message
 
   abbrev held : ResponderState (Unit {0})
   held = held_in l.end
@@ -168,8 +165,8 @@ module _ (settings : LinkSettings) (answers : ℕ → Given) (laws : Laws) (l : 
   its_own : holds.end.own ≡ settings.eid
   its_own = sym holds.end.parts.left.endpoint ∙ own_here
 
-  parts : IsLeftByParts settings.eid none_handed_on All settings.window settings.keep answers count pending held calls
-  parts = subst (λ own. IsLeftByParts own none_handed_on All settings.window settings.keep answers count pending held calls) its_own holds.end.parts
+  parts : IsLeftByParts settings.eid settings.handed_on All settings.window settings.keep answers count pending held calls
+  parts = subst (λ own. IsLeftByParts own settings.handed_on All settings.window settings.keep answers count pending held calls) its_own holds.end.parts
 
   came_before : events settings.eid calls ≡ reached {S = ℕ} log
   came_before = ap (λ own. events own calls) (sym its_own) ∙ holds.end.events
@@ -194,7 +191,7 @@ module _ (settings : LinkSettings) (answers : ℕ → Given) (laws : Laws) (l : 
   fine : IsFine settings answers r
   fine = holds.known.fine k r asked
 
-  source : IsEid r.source × (r.source ≢ settings.eid)
+  source : IsEid (endpoint_of r.source) × (endpoint_of r.source ≢ settings.eid)
   source = sound.sources k r asked
 
   brings : (gives_it : Packet → Fed) → gives_it (packet_for settings.eid r) ≡ feds.Whole (record { items = r.message }) → arrival gives_it settings.eid moment bytes ≡ Whole m
@@ -238,35 +235,35 @@ module _ (settings : LinkSettings) (answers : ℕ → Given) (laws : Laws) (l : 
           ap (λ b. not b && not (is_copy_of settings.keep m (origin All settings.window settings.keep (reached {S = ℕ} log) m.source (id_at m.bytes)))) on
           ∙ sym (and_right (not (has_arrived ℕ settings.keep log k)) (arrives (asked_at log k) busy) ((λ i. arrives (asked i) (on i))))
 
-  asked_is : asked_now none_handed_on held moment bytes ≡ (if first_now then tasks_of (hands_on none_handed_on) r.message else [])
+  asked_is : asked_now settings.handed_on held moment bytes ≡ (if first_now then tasks_of (hands_on settings.handed_on) r.message else [])
   asked_is =
-      sym (same_commands none_handed_on answers count pending held parts.ids (received_arrival held moment bytes) free)
-      ∙ tasks_look_back (device answers) laws.feeds (hands_on none_handed_on) settings.eid All settings.window settings.keep 0 (over count (to_be none_handed_on answers pending held)) calls moment bytes parts.left
-      ∙ ap (asked_by (tasks_of (hands_on none_handed_on)) All settings.window settings.keep (events settings.eid calls)) arrives_back
-      ∙ ap (λ es. asked_by (tasks_of (hands_on none_handed_on)) All settings.window settings.keep es (Whole m)) came_before
-      ∙ ap (λ b. if b then tasks_of (hands_on none_handed_on) r.message else []) fresh_is
+      sym (same_commands settings.handed_on answers count pending held parts.ids (received_arrival held moment bytes) free)
+      ∙ tasks_look_back (device settings.handed_on answers) laws.feeds (hands_on settings.handed_on) settings.eid All settings.window settings.keep 0 (over count (to_be settings.handed_on answers pending held)) calls moment bytes parts.left
+      ∙ ap (asked_by (tasks_of (hands_on settings.handed_on)) All settings.window settings.keep (events settings.eid calls)) arrives_back
+      ∙ ap (λ es. asked_by (tasks_of (hands_on settings.handed_on)) All settings.window settings.keep es (Whole m)) came_before
+      ∙ ap (λ b. if b then tasks_of (hands_on settings.handed_on) r.message else []) fresh_is
 
   -- ---- the endpoint
-  count_is_now : new.count ≡ count_after none_handed_on held moment bytes count
+  count_is_now : new.count ≡ count_after settings.handed_on held moment bytes count
   count_is_now = has.count ∙ ap (λ h. count_after h held moment bytes count) holds.end.handed_on
 
-  pending_is_now : new.pending ≡ pending_after none_handed_on held moment bytes pending count
+  pending_is_now : new.pending ≡ pending_after settings.handed_on held moment bytes pending count
   pending_is_now = has.pending ∙ ap (λ h. pending_after h held moment bytes pending count) holds.end.handed_on
 
-  step_is_now : step ≡ received_step none_handed_on held moment bytes count
+  step_is_now : step ≡ received_step settings.handed_on held moment bytes count
   step_is_now = has.step_is ∙ ap (λ h. received_step h held moment bytes count) holds.end.handed_on
 
-  held_is_now : IsHeld (held_in new) (held_after none_handed_on held moment bytes)
+  held_is_now : IsHeld (held_in new) (held_after settings.handed_on held moment bytes)
   held_is_now =
-      subst (λ ended. IsHeld (held_in new) (ended_held ended (held_after none_handed_on held moment bytes))) ends_none
+      subst (λ ended. IsHeld (held_in new) (ended_held ended (held_after settings.handed_on held moment bytes))) ends_none
       (subst (λ h. IsHeld (held_in new) (ended_held (ended_by l.end.end bytes) (held_after h held moment bytes))) holds.end.handed_on has.held)
 
-  parts_received : IsLeftByParts settings.eid none_handed_on All settings.window settings.keep answers new.count new.pending (held_in new) (Received moment bytes ∷ calls)
+  parts_received : IsLeftByParts settings.eid settings.handed_on All settings.window settings.keep answers new.count new.pending (held_in new) (Received moment bytes ∷ calls)
   parts_received =
-      same_in_turn settings.eid none_handed_on All settings.window settings.keep answers new.count new.pending (held_in new) (held_after none_handed_on held moment bytes) (Received moment bytes ∷ calls) held_is_now
-      (subst (λ n. IsLeftByParts settings.eid none_handed_on All settings.window settings.keep answers n new.pending (held_after none_handed_on held moment bytes) (Received moment bytes ∷ calls)) (sym count_is_now)
-      (subst (λ p. IsLeftByParts settings.eid none_handed_on All settings.window settings.keep answers (count_after none_handed_on held moment bytes count) p (held_after none_handed_on held moment bytes) (Received moment bytes ∷ calls)) (sym pending_is_now)
-      (received_in_turn laws.feeds settings.eid none_handed_on All settings.window settings.keep answers count pending held calls moment bytes parts free)))
+      same_in_turn settings.eid settings.handed_on All settings.window settings.keep answers new.count new.pending (held_in new) (held_after settings.handed_on held moment bytes) (Received moment bytes ∷ calls) held_is_now
+      (subst (λ n. IsLeftByParts settings.eid settings.handed_on All settings.window settings.keep answers n new.pending (held_after settings.handed_on held moment bytes) (Received moment bytes ∷ calls)) (sym count_is_now)
+      (subst (λ p. IsLeftByParts settings.eid settings.handed_on All settings.window settings.keep answers (count_after settings.handed_on held moment bytes count) p (held_after settings.handed_on held moment bytes) (Received moment bytes ∷ calls)) (sym pending_is_now)
+      (received_in_turn laws.feeds settings.eid settings.handed_on All settings.window settings.keep answers count pending held calls moment bytes parts free)))
 
   events_now : events settings.eid (Received moment bytes ∷ calls) ≡ reached {S = ℕ} longer
   events_now =
@@ -274,23 +271,23 @@ module _ (settings : LinkSettings) (answers : ℕ → Given) (laws : Laws) (l : 
       ∙ ap (λ es. Came m ∷ es) came_before
       ∙ sym (ap (λ o. with_reached moment o (reached {S = ℕ} log)) asked)
 
-  asks_is : asks_at log k ≡ asks_device r.message
-  asks_is = ap asks_by asked
+  asks_is : asks_at settings.handed_on log k ≡ asks_device settings.handed_on r.message
+  asks_is = ap (asks_by settings.handed_on) asked
 
   -- ---- the log
-  state_is : performed (device answers) All settings.window settings.keep 0 (reached log) ≡ length (to_hand_out settings.keep log)
-  state_is = state_is_once (device answers) settings.window settings.keep settings.pace.lifetime 0 log timely ∙ count_is answers settings.keep log
+  state_is : performed (device settings.handed_on answers) All settings.window settings.keep 0 (reached log) ≡ length (to_hand_out settings.handed_on settings.keep log)
+  state_is = state_is_once (device settings.handed_on answers) settings.window settings.keep settings.pace.lifetime 0 log timely ∙ count_is settings.handed_on answers settings.keep log
 
-  number_is : count ≡ length (to_hand_out settings.keep log)
-  number_is = parts.left.state ∙ ap (performed (device answers) All settings.window settings.keep 0) came_before ∙ state_is
+  number_is : count ≡ length (to_hand_out settings.handed_on settings.keep log)
+  number_is = parts.left.state ∙ ap (performed (device settings.handed_on answers) All settings.window settings.keep 0) came_before ∙ state_is
 
   -- ---- it asks something of the device
-  module _ (task : Task) (rest : List Task) (now_first : first_now ≡ true) (its : tasks_of (hands_on none_handed_on) r.message ≡ task ∷ rest) where
-    asks_now : asked_now none_handed_on held moment bytes ≡ task ∷ rest
+  module _ (task : Task) (rest : List Task) (now_first : first_now ≡ true) (its : tasks_of (hands_on settings.handed_on) r.message ≡ task ∷ rest) where
+    asks_now : asked_now settings.handed_on held moment bytes ≡ task ∷ rest
     asks_now = asked_is ∙ cond-true first_now _ _ now_first ∙ its
 
     asking : step ≡ asking_step task (handle_of m count)
-    asking = step_is_now ∙ (λ i. step_by (received_outcome (gives (hands_on none_handed_on) unasked) held moment bytes) count (request_is i) (asks_now i))
+    asking = step_is_now ∙ (λ i. step_by (received_outcome (gives (hands_on settings.handed_on) unasked) held moment bytes) count (request_is i) (asks_now i))
 
     one_pending : new.pending ≡ map.insert pending (request_key_of m) (command_at m count task)
     one_pending = pending_is_now ∙ (λ i. pending_by pending count (request_is i) (asks_now i))
@@ -298,10 +295,10 @@ module _ (settings : LinkSettings) (answers : ℕ → Given) (laws : Laws) (l : 
     out_is : l_after.handed_out ≡ l.handed_out ++ k ∷ []
     out_is = ap (handed_out_by l.handed_out k) asking ∙ asked_hands_out l.handed_out k task (handle_of m count)
 
-    listed_asked : l_after.handed_out ≡ to_hand_out settings.keep longer
+    listed_asked : l_after.handed_out ≡ to_hand_out settings.handed_on settings.keep longer
     listed_asked =
         out_is ∙ ap (λ xs. xs ++ k ∷ []) holds.end.listed
-        ∙ sym (cond-true (first_now && asks_at log k) _ _ ((λ i. now_first i && (asks_is ∙ ap is_some_task its) i)))
+        ∙ sym (cond-true (first_now && asks_at settings.handed_on log k) _ _ ((λ i. now_first i && (asks_is ∙ ap is_some_task its) i)))
 
     place_number : slice_get l_after.handed_out count ≡ Some k
     place_number =
@@ -323,7 +320,7 @@ module _ (settings : LinkSettings) (answers : ℕ → Given) (laws : Laws) (l : 
           r = r;
           place = log;
           asked = asked;
-          came = first_place answers settings.keep log moment k now_first;
+          came = first_place settings.handed_on answers settings.keep log moment k now_first;
           from = ap (λ (key : RequestKey). key.source) (sym x.0);
           tag = ap (λ (b : PendingCommand). b.tag) x.1;
           bytes = ap (λ (b : PendingCommand). b.request) x.1;
@@ -345,40 +342,40 @@ module _ (settings : LinkSettings) (answers : ℕ → Given) (laws : Laws) (l : 
             }
 
   -- ---- it asks nothing
-  module _ (none : asked_now none_handed_on held moment bytes ≡ []) (none_out : (first_now && asks_at log k) ≡ false) where
+  module _ (none : asked_now settings.handed_on held moment bytes ≡ []) (none_out : (first_now && asks_at settings.handed_on log k) ≡ false) where
     abbrev gone_out : Outcome
-    gone_out = received_outcome (gives (hands_on none_handed_on) unasked) held moment bytes
+    gone_out = received_outcome (gives (hands_on settings.handed_on) unasked) held moment bytes
 
     done_now : step ≡ taken.Done gone_out
-    done_now = step_is_now ∙ done_where_none gone_out count (request_in held moment bytes) (asked_now none_handed_on held moment bytes) none
+    done_now = step_is_now ∙ done_where_none gone_out count (request_in held moment bytes) (asked_now settings.handed_on held moment bytes) none
 
     same_pending : new.pending ≡ pending
-    same_pending = pending_is_now ∙ pending_where_none pending count (request_in held moment bytes) (asked_now none_handed_on held moment bytes) none
+    same_pending = pending_is_now ∙ pending_where_none pending count (request_in held moment bytes) (asked_now settings.handed_on held moment bytes) none
 
     same_out : l_after.handed_out ≡ l.handed_out
     same_out = ap (handed_out_by l.handed_out k) done_now
 
-    listed_done : l_after.handed_out ≡ to_hand_out settings.keep longer
-    listed_done = same_out ∙ holds.end.listed ∙ sym (cond-false (first_now && asks_at log k) _ _ none_out)
+    listed_done : l_after.handed_out ≡ to_hand_out settings.handed_on settings.keep longer
+    listed_done = same_out ∙ holds.end.listed ∙ sym (cond-false (first_now && asks_at settings.handed_on log k) _ _ none_out)
 
-    outcome_is : gone_out ≡ answer_expected (device answers) settings.eid All settings.window settings.keep 0 (reached log) m
+    outcome_is : gone_out ≡ answer_expected (device settings.handed_on answers) settings.eid All settings.window settings.keep 0 (reached log) m
     outcome_is =
-        unasked_looks_back laws.feeds settings.eid none_handed_on All settings.window settings.keep answers count pending held calls moment bytes parts free none
-        ∙ ap (outcome_expected (device answers) settings.eid All settings.window settings.keep 0 (events settings.eid calls)) arrives_back
-        ∙ ap (λ es. answer_expected (device answers) settings.eid All settings.window settings.keep 0 es m) came_before
+        unasked_looks_back laws.feeds settings.eid settings.handed_on All settings.window settings.keep answers count pending held calls moment bytes parts free none
+        ∙ ap (outcome_expected (device settings.handed_on answers) settings.eid All settings.window settings.keep 0 (events settings.eid calls)) arrives_back
+        ∙ ap (λ es. answer_expected (device settings.handed_on answers) settings.eid All settings.window settings.keep 0 es m) came_before
 
     serves_is : arrives_at ℕ settings.keep log moment k ≡ not busy
     serves_is = ap (λ o. arrives o busy) asked
 
     -- while it serves, the one message goes out
     abbrev given_now : List ℕ
-    given_now = answered (device answers) All settings.window settings.keep 0 (reached log) m
+    given_now = answered (device settings.handed_on answers) All settings.window settings.keep 0 (reached log) m
 
     goes_out : busy ≡ false → packets_of_outcome gone_out ≡ Some (packets_back settings.eid m given_now)
-    goes_out idle = ap packets_of_outcome outcome_is ∙ expected_served (device answers) settings.eid settings.window settings.keep 0 (reached {S = ℕ} log) m idle
+    goes_out idle = ap packets_of_outcome outcome_is ∙ expected_served (device settings.handed_on answers) settings.eid settings.window settings.keep 0 (reached {S = ℕ} log) m idle
 
     goes_busy : busy ≡ true → packets_of_outcome gone_out ≡ Some (packets_back settings.eid m (busy_reply m.bytes))
-    goes_busy on = ap packets_of_outcome outcome_is ∙ expected_busy (device answers) settings.eid settings.window settings.keep 0 (reached {S = ℕ} log) m on
+    goes_busy on = ap packets_of_outcome outcome_is ∙ expected_busy (device settings.handed_on answers) settings.eid settings.window settings.keep 0 (reached {S = ℕ} log) m on
 
     sent_here : busy ≡ false → IsSent settings answers longer k (packets_back settings.eid m given_now)
     sent_here idle = go (first ℕ settings.keep longer k) refl (arrived_here ℕ settings.keep log moment k r asked idle)
@@ -386,8 +383,8 @@ module _ (settings : LinkSettings) (answers : ℕ → Given) (laws : Laws) (l : 
         go : (f : Option (List Happening)) → first ℕ settings.keep longer k ≡ f → is_some (first ℕ settings.keep longer k) ≡ true → IsSent settings answers longer k (packets_back settings.eid m given_now)
         go None e arrived_now = absurd (let wrong : true ≡ false = sym arrived_now ∙ ap is_some e in cc)
         go (Some place) e arrived_now =
-            let here : given (device answers) settings.window settings.keep 0 longer k ≡ Some given_now = given_here (device answers) settings.window settings.keep 0 log moment k r asked idle in
-            let once = given_is_the_reply (device answers) settings.window settings.keep settings.pace.lifetime 0 longer k longer_timely in
+            let here : given (device settings.handed_on answers) settings.window settings.keep 0 longer k ≡ Some given_now = given_here (device settings.handed_on answers) settings.window settings.keep 0 log moment k r asked idle in
+            let once = given_is_the_reply (device settings.handed_on answers) settings.window settings.keep settings.pace.lifetime 0 longer k longer_timely in
             let reply_now : Some given_now ≡ Some (reply_to settings answers longer k) = sym here ∙ once ∙ ap (option_map (λ (p : List Happening). reply_to settings answers longer k)) e in
             record { r = r; place = place; asked = asked; came = e; is = ap (packets_back settings.eid m) (let same : given_now ≡ reply_to settings answers longer k = cc in same) }
 
@@ -428,48 +425,48 @@ module _ (settings : LinkSettings) (answers : ℕ → Given) (laws : Laws) (l : 
             (λ (same : k ≡ n).
             let here : Some (packets_back settings.eid m (busy_reply m.bytes)) ≡ Some packets = sym (put_here l.not_ready k (Some (packets_back settings.eid m (busy_reply m.bytes)))) ∙ ap (put l.not_ready k (Some (packets_back settings.eid m (busy_reply m.bytes)))) same ∙ put_is in
             subst (λ j. IsNotReady settings answers longer j packets) same
-            (record { r = r; asked = asked; busy = busy_here (device answers) settings.window settings.keep 0 log moment k r asked on; is = (let e : packets_back settings.eid m (busy_reply m.bytes) ≡ packets = cc in sym e) }))
+            (record { r = r; asked = asked; busy = busy_here (device settings.handed_on answers) settings.window settings.keep 0 log moment k r asked on; is = (let e : packets_back settings.eid m (busy_reply m.bytes) ≡ packets = cc in sym e) }))
             (λ (other : k ≡ n → ⊥). not_ready_moves settings answers n packets (Delivered moment k) log (holds.known.not_ready n packets (sym (put_other l.not_ready k n (Some (packets_back settings.eid m (busy_reply m.bytes))) other) ∙ put_is)))
             (cases_eq k n)
 
   -- ---- either way
   pub record Now : Type 0 where
     pub known : AreKnown settings answers l_after
-    pub listed : l_after.handed_out ≡ to_hand_out settings.keep longer
+    pub listed : l_after.handed_out ≡ to_hand_out settings.handed_on settings.keep longer
 
   now_is : Now
-  now_is = go first_now (tasks_of (hands_on none_handed_on) r.message) refl refl
+  now_is = go first_now (tasks_of (hands_on settings.handed_on) r.message) refl refl
     where
-      go : (b : Bool) (ts : List Task) → first_now ≡ b → tasks_of (hands_on none_handed_on) r.message ≡ ts → Now
+      go : (b : Bool) (ts : List Task) → first_now ≡ b → tasks_of (hands_on settings.handed_on) r.message ≡ ts → Now
       go true (task ∷ rest) on its = record { known = known_asked task rest on its; listed = listed_asked task rest on its }
       go true [] on its =
           let none = asked_is ∙ cond-true first_now _ _ on ∙ its in
-          let out : (first_now && asks_at log k) ≡ false = and_right first_now (asks_at log k) (asks_is ∙ ap is_some_task its) in
+          let out : (first_now && asks_at settings.handed_on log k) ≡ false = and_right first_now (asks_at settings.handed_on log k) (asks_is ∙ ap is_some_task its) in
           record { known = known_done none out; listed = listed_done none out }
       go false ts off its =
-          let none = asked_is ∙ cond-false first_now (tasks_of (hands_on none_handed_on) r.message) [] off in
-          let out : (first_now && asks_at log k) ≡ false = ap (λ b. b && asks_at log k) off in
+          let none = asked_is ∙ cond-false first_now (tasks_of (hands_on settings.handed_on) r.message) [] off in
+          let out : (first_now && asks_at settings.handed_on log k) ≡ false = ap (λ b. b && asks_at settings.handed_on log k) off in
           record { known = known_done none out; listed = listed_done none out }
 
   -- ---- what the device's end makes fits packets
-  fits_now : IsSoundLink settings answers l_after → (q : Asked) → asked_at log k ≡ Some q → is_fresh All settings.window settings.keep (reached {S = ℕ} log) (message_at moment q) ≡ true → FitsPackets (reply (device answers) (performed (device answers) All settings.window settings.keep 0 (reached log)) q.message)
+  fits_now : IsSoundLink settings answers l_after → (q : Asked) → asked_at log k ≡ Some q → is_fresh All settings.window settings.keep (reached {S = ℕ} log) (message_at moment q) ≡ true → FitsPackets (reply (device settings.handed_on answers) (performed (device settings.handed_on answers) All settings.window settings.keep 0 (reached log)) q.message)
   fits_now sound_after q e fresh =
       let same : r ≡ q = let both : Some r ≡ Some q = sym asked ∙ e in cc in
-      subst (λ (a : Asked). FitsPackets (reply (device answers) (performed (device answers) All settings.window settings.keep 0 (reached log)) a.message)) same
-      (subst (λ n. FitsPackets (reply (device answers) n r.message)) (sym state_is) (go (asks_device r.message) refl))
+      subst (λ (a : Asked). FitsPackets (reply (device settings.handed_on answers) (performed (device settings.handed_on answers) All settings.window settings.keep 0 (reached log)) a.message)) same
+      (subst (λ n. FitsPackets (reply (device settings.handed_on answers) n r.message)) (sym state_is) (go (asks_device settings.handed_on r.message) refl))
     where
       now_first : first_now ≡ true
       now_first = sym fresh_is ∙ subst (λ (a : Asked). is_fresh All settings.window settings.keep (reached {S = ℕ} log) (message_at moment a) ≡ true) (let back : q ≡ r = let both : Some q ≡ Some r = sym e ∙ asked in cc in back) fresh
 
-      go : (b : Bool) → asks_device r.message ≡ b → FitsPackets (reply (device answers) (length (to_hand_out settings.keep log)) r.message)
+      go : (b : Bool) → asks_device settings.handed_on r.message ≡ b → FitsPackets (reply (device settings.handed_on answers) (length (to_hand_out settings.handed_on settings.keep log)) r.message)
       go false none =
-          subst FitsPackets (sym (refusal_is answers (length (to_hand_out settings.keep log)) r.message none))
-          (refusal_fits (request_of r.message) fine.readable.0 fine.readable.1 none)
+          subst FitsPackets (sym (refusal_is settings.handed_on answers (length (to_hand_out settings.handed_on settings.keep log)) r.message none))
+          (refusal_fits settings.handed_on (request_of r.message) fine.readable.0 fine.readable.1 none)
       go true asks =
-          let out : l_after.handed_out ≡ to_hand_out settings.keep log ++ k ∷ [] = now_is.listed ∙ cond-true (first_now && asks_at log k) _ _ (λ i. now_first i && (asks_is ∙ asks) i) in
-          let here : slice_get l_after.handed_out (length (to_hand_out settings.keep log)) ≡ Some k = ap (λ xs. slice_get xs (length (to_hand_out settings.keep log))) out ∙ get_last (to_hand_out settings.keep log) k in
-          subst FitsPackets (sym (reply_is answers (length (to_hand_out settings.keep log)) r.message))
-          (sound_after.fit (length (to_hand_out settings.keep log)) k r here asked)
+          let out : l_after.handed_out ≡ to_hand_out settings.handed_on settings.keep log ++ k ∷ [] = now_is.listed ∙ cond-true (first_now && asks_at settings.handed_on log k) _ _ (λ i. now_first i && (asks_is ∙ asks) i) in
+          let here : slice_get l_after.handed_out (length (to_hand_out settings.handed_on settings.keep log)) ≡ Some k = ap (λ xs. slice_get xs (length (to_hand_out settings.handed_on settings.keep log))) out ∙ get_last (to_hand_out settings.handed_on settings.keep log) k in
+          subst FitsPackets (sym (reply_is settings.handed_on answers (length (to_hand_out settings.handed_on settings.keep log)) r.message))
+          (sound_after.fit (length (to_hand_out settings.handed_on settings.keep log)) k r here asked)
 
   pub received_holds : IsSoundLink settings answers l_after → Holds settings answers l_after moment (step_at moment (actions.Request k) ∷ steps)
   received_holds sound_after = record {
@@ -489,6 +486,7 @@ module _ (settings : LinkSettings) (answers : ℕ → Given) (laws : Laws) (l : 
       last = omega arith;
       log_last = omega arith;
       order = (let x = holds.as_scheduled.last in omega (arith, x, later), holds.as_scheduled.order);
+      asks = (tt, holds.as_scheduled.asks);
       timely = (λ q e. subst (λ (w : World). ComesInTime ℕ settings.window settings.keep settings.pace.lifetime w.log moment k q) holds.as_scheduled.same (in_time q (ap (λ (w : World). asked_at w.log k) holds.as_scheduled.same ∙ e)), holds.as_scheduled.timely);
       fit = (fits_now sound_after, holds.as_scheduled.fit);
     };

@@ -1,47 +1,31 @@
 -- What both ends hold after some steps, and that it stays over a step which brings it nothing.
 use Rattle.std.specs.FinMap as map
-use Rattle.std.proofs.Common.{◌≡◌, ℕ, ◌<◌, ◌≤◌, ◌/◌, ◌%◌, ◌^◌, Bool, true, false, List, ◌∷◌, length, Option, Some, None, refl, sym, ap, ◌∙◌, subst, arith}
+use Rattle.std.proofs.Common.{◌≡◌, ℕ, ◌<◌, ◌≤◌, ◌%◌, Bool, true, false, List, ◌∷◌, length, Option, Some, None, refl, sym, ap, ◌∙◌, subst, arith}
 use Rattle.std.specs.Prelude.{◌&&◌, ◌||◌, ◌==◌, slice_get, if◌then◌else◌}
-use native.Mathlib.Nat.{zero-div}
 use Rattle.mctp_packet.specs.Ids.{IsEid}
 use Rattle.mctp_packet.specs.declared.TheConstants.{BASELINE_UNIT, TAGS}
 use Rattle.pldm_endpoint.specs.RequestKeys.{request_key}
 use Rattle.pldm_endpoint.specs.TwoSteps.{held_in}
 use Rattle.pldm_endpoint.specs.declared.pending_commands.PendingCommand.{PendingCommand}
 use Rattle.pldm_endpoint.proofs.ByParts.{IsLeftByParts}
+use Rattle.pldm_requester.specs.Asks.{Ask}
 use Rattle.pldm_requester.specs.Calls.{accepts}
 use Rattle.pldm_responder.specs.Asked.{Given}
 use Rattle.pldm_responder.specs.Calls.{Call, events}
 use Rattle.pldm_responder.specs.Performing.{busy_reply}
-use Rattle.pldm_wire.specs.HandingOn.{hands_on, none_handed_on}
-use Rattle.pldm_wire.specs.Kinds.{TypeAndCommand}
-use Rattle.pldm_wire.specs.declared.assigned.TheConstants.{BASE, PLATFORM}
-use Rattle.pldm_wire.specs.declared.command.Command.{Command}
 use Rattle.pldm_wire.specs.declared.restart_policy.RestartPolicy.TheVariants.{All}
 use Rattle.mctp_schedule.specs.FirstArrivals.{first, is_answered_busy_at}
-use Rattle.mctp_schedule.specs.Logs.{Asked, Happening, Opened, Delivered, Sensed, WentDown, asked_at, last_of, reached}
+use Rattle.mctp_schedule.specs.Logs.{Asked, Happening, Opened, Delivered, Sensed, WentDown, AreRested, asked_at, endpoint_of, last_of, reached}
 use Rattle.mctp_schedule.specs.OncePerformed.{IsReadable, RepliesFit, the_reply, was_busy}
 use Rattle.mctp_schedule.specs.RequesterHalf.{IsTimelySchedule}
 use Rattle.mctp_schedule.specs.Worlds.{BothEnds, IsTimely, NeverWentBack, World, answer_packets, asked_by, done, requests_of, time_now, timing_of, world}
-use Rattle.schedule_text.specs.declared.step.Action.{Action}
-use Rattle.schedule_text.specs.declared.step.Action.TheVariants as actions
-use Rattle.schedule_text.specs.declared.step.Step.{Step}
+use Rattle.mctp_schedule.specs.Actions.{Action, AreOfKinds, Step}
+use Rattle.mctp_schedule.specs.Actions as actions
 use Rattle.mctp_schedule.proofs.KnownRequests.{asked_stays, stays_done}
 use Rattle.mctp_schedule.proofs.UntouchedRequests.{first_more}
 use Rattle.endpoint_schedule.specs.Links.{Link, LinkSettings, over_time}
 use Rattle.endpoint_schedule.specs.OverTime.{IsSoundLink, to_hand_out}
 use Rattle.endpoint_schedule.proofs.AskedInOrder.{device, reply_at}
-
--- ---- no request is handed on as bytes
-none_of_type : (t : ℕ) → (0 / 2 ^ t % 2 == 1) ≡ false
-none_of_type t = ap (λ n. n % 2 == 1) (zero-div (2 ^ t))
-
-pub reads_all : (kind : TypeAndCommand) → hands_on none_handed_on kind ≡ false
-reads_all kind = go (kind.pldm_type == BASE || kind.pldm_type == PLATFORM)
-  where
-    go : (b : Bool) → (if b then false else (0 / 2 ^ kind.pldm_type % 2 == 1)) ≡ false
-    go true = refl
-    go false = none_of_type kind.pldm_type
 
 or_true : (b : Bool) → (b || true) ≡ true
 or_true true = refl
@@ -60,7 +44,7 @@ module _ (settings : LinkSettings) (answers : ℕ → Given) where
   setting = over_time settings answers
 
   abbrev pub reply_to : List Happening → ℕ → List ℕ
-  reply_to log k = the_reply (device answers) settings.keep 0 log k
+  reply_to log k = the_reply (device settings.handed_on answers) settings.keep 0 log k
 
   -- ---- what is known of one request
   -- what went out to request k
@@ -84,7 +68,7 @@ module _ (settings : LinkSettings) (answers : ℕ → Given) where
     pub place : List Happening
     pub asked : asked_at log k ≡ Some r
     pub came : first ℕ settings.keep log k ≡ Some place
-    pub from : r.source ≡ source
+    pub from : endpoint_of r.source ≡ source
     pub tag : a.tag ≡ r.own % TAGS
     pub bytes : a.request ≡ r.message
     pub number : slice_get handed_out a.number ≡ Some k
@@ -97,8 +81,8 @@ module _ (settings : LinkSettings) (answers : ℕ → Given) where
 
   pub reply_stays : (h : Happening) (log : List Happening) (k : ℕ) (r : Asked) (place : List Happening) → asked_at log k ≡ Some r → first ℕ settings.keep log k ≡ Some place → reply_to (h ∷ log) k ≡ reply_to log k
   reply_stays h log k r place e f =
-      reply_at answers settings.keep (h ∷ log) k r place (asked_stays h log k r e) (first_more ℕ settings.keep h log k place f)
-      ∙ sym (reply_at answers settings.keep log k r place e f)
+      reply_at settings.handed_on answers settings.keep (h ∷ log) k r place (asked_stays h log k r e) (first_more ℕ settings.keep h log k place f)
+      ∙ sym (reply_at settings.handed_on answers settings.keep log k r place e f)
 
   pub sent_moves : (k : ℕ) (packets : List (List ℕ)) (h : Happening) (log : List Happening) → IsSent log k packets → IsSent (h ∷ log) k packets
   sent_moves k packets h log x = record {
@@ -150,11 +134,11 @@ module _ (settings : LinkSettings) (answers : ℕ → Given) where
     pub calls : List (Call ℕ)
     pub own : ℕ
     pub assigned : IsEid own
-    pub parts : IsLeftByParts own none_handed_on All settings.window settings.keep answers l.end.count l.end.pending (held_in l.end) calls
+    pub parts : IsLeftByParts own settings.handed_on All settings.window settings.keep answers l.end.count l.end.pending (held_in l.end) calls
     pub asked_here : (source id : ℕ) (a : PendingCommand) → map.get l.end.pending (request_key source id) ≡ Some a → own ≡ settings.eid
-    pub handed_on : l.end.handed_on ≡ none_handed_on
+    pub handed_on : l.end.handed_on ≡ settings.handed_on
     pub events : events own calls ≡ reached {S = ℕ} l.world.log
-    pub listed : l.handed_out ≡ to_hand_out settings.keep l.world.log
+    pub listed : l.handed_out ≡ to_hand_out settings.handed_on settings.keep l.world.log
 
   -- the steps of a schedule in which both ends do the same
   pub record IsAsScheduled (l : Link) (moment : ℕ) (steps : List Step) : Type 0 where
@@ -162,8 +146,9 @@ module _ (settings : LinkSettings) (answers : ℕ → Given) where
     pub last : time_now steps ≤ moment
     pub log_last : last_of l.world.log ≤ moment
     pub order : NeverWentBack steps
+    pub asks : AreOfKinds steps
     pub timely : IsTimely setting steps
-    pub fit : RepliesFit (device answers) settings.window settings.keep 0 l.world.log
+    pub fit : RepliesFit (device settings.handed_on answers) settings.window settings.keep 0 l.world.log
 
   pub schedule_of : (l : Link) (moment : ℕ) (steps : List Step) → IsSoundLink settings answers l → IsAsScheduled l moment steps → IsTimelySchedule setting steps
   schedule_of l moment steps sound x = record {
@@ -172,9 +157,10 @@ module _ (settings : LinkSettings) (answers : ℕ → Given) where
     sound = record {
       device = sound.device;
       sources = λ k r is. sound.sources k r (ap (λ (w : World). asked_at w.log k) x.same ∙ is);
-      fit = subst (λ (w : World). RepliesFit (device answers) settings.window settings.keep 0 w.log) x.same x.fit;
+      fit = subst (λ (w : World). RepliesFit (device settings.handed_on answers) settings.window settings.keep 0 w.log) x.same x.fit;
       pace = sound.pace;
-      reads = reads_all;
+      asks = x.asks;
+      rested = subst (λ (w : World). AreRested settings.keep w.log) x.same sound.rested;
     };
   }
 
@@ -185,8 +171,9 @@ module _ (settings : LinkSettings) (answers : ℕ → Given) where
     last = let y = x.last in omega (arith, y, later);
     log_last = subst (λ (w : World). last_of w.log ≤ moment) (sym same) (let y = x.log_last in omega (arith, y, later));
     order = x.order;
+    asks = x.asks;
     timely = x.timely;
-    fit = subst (λ (w : World). RepliesFit (device answers) settings.window settings.keep 0 w.log) (sym same) x.fit;
+    fit = subst (λ (w : World). RepliesFit (device settings.handed_on answers) settings.window settings.keep 0 w.log) (sym same) x.fit;
   }
 
   -- the device's end goes down
@@ -197,8 +184,9 @@ module _ (settings : LinkSettings) (answers : ℕ → Given) where
     last = omega arith;
     log_last = subst (λ (w : World). last_of w.log ≤ moment) (sym now_is) (omega arith);
     order = (let y = x.last in omega (arith, y, later), x.order);
+    asks = (tt, x.asks);
     timely = (tt, x.timely);
-    fit = subst (λ (w : World). RepliesFit (device answers) settings.window settings.keep 0 w.log) (sym now_is) x.fit;
+    fit = subst (λ (w : World). RepliesFit (device settings.handed_on answers) settings.window settings.keep 0 w.log) (sym now_is) x.fit;
   }
 
   pub record Holds (l : Link) (moment : ℕ) (steps : List Step) : Type 0 where
@@ -227,16 +215,16 @@ module _ (settings : LinkSettings) (answers : ℕ → Given) where
   }
 
   -- an open happens on the link or not; neither reaches the endpoint
-  pub end_opened : (l : Link) (moment e : ℕ) (command : Command) → IsEnd l → IsEnd (record l { world = done setting l.world moment (actions.Open e command) })
-  end_opened l moment e command x = go (accepts (timing_of setting e).keep setting.pace (requests_of setting l.world e) moment)
+  pub end_opened : (l : Link) (moment e : ℕ) (ask : Ask) → IsEnd l → IsEnd (record l { world = done setting l.world moment (actions.Open e ask) })
+  end_opened l moment e ask x = go (accepts (timing_of setting e).keep setting.pace (requests_of setting l.world e) moment)
     where
-      go : (b : Bool) → IsEnd (record l { world = record { calls = (done setting l.world moment (actions.Open e command)).calls; log = if b then Opened (asked_by setting l.world moment e command) ∷ l.world.log else l.world.log } })
+      go : (b : Bool) → IsEnd (record l { world = record { calls = (done setting l.world moment (actions.Open e ask)).calls; log = if b then Opened (asked_by setting l.world moment e ask) ∷ l.world.log else l.world.log } })
       go true = record { calls = x.calls; own = x.own; assigned = x.assigned; parts = x.parts; asked_here = x.asked_here; handed_on = x.handed_on; events = x.events; listed = x.listed }
       go false = record { calls = x.calls; own = x.own; assigned = x.assigned; parts = x.parts; asked_here = x.asked_here; handed_on = x.handed_on; events = x.events; listed = x.listed }
 
-  pub fit_opened : (l : Link) (moment e : ℕ) (command : Command) → RepliesFit (device answers) settings.window settings.keep 0 l.world.log → RepliesFit (device answers) settings.window settings.keep 0 (done setting l.world moment (actions.Open e command)).log
-  fit_opened l moment e command x = go (accepts (timing_of setting e).keep setting.pace (requests_of setting l.world e) moment)
+  pub fit_opened : (l : Link) (moment e : ℕ) (ask : Ask) → RepliesFit (device settings.handed_on answers) settings.window settings.keep 0 l.world.log → RepliesFit (device settings.handed_on answers) settings.window settings.keep 0 (done setting l.world moment (actions.Open e ask)).log
+  fit_opened l moment e ask x = go (accepts (timing_of setting e).keep setting.pace (requests_of setting l.world e) moment)
     where
-      go : (b : Bool) → RepliesFit (device answers) settings.window settings.keep 0 (if b then Opened (asked_by setting l.world moment e command) ∷ l.world.log else l.world.log)
+      go : (b : Bool) → RepliesFit (device settings.handed_on answers) settings.window settings.keep 0 (if b then Opened (asked_by setting l.world moment e ask) ∷ l.world.log else l.world.log)
       go true = x
       go false = x

@@ -12,13 +12,14 @@ use Rattle.endpoint_schedule.specs.EventReceiving.{AsksInTurn, following}
 use Rattle.mctp_packet.specs.Ids.{IsEid}
 use Rattle.mctp_packet.specs.declared.reason.Reason.{Reason}
 use Rattle.mctp_schedule.specs.Laws.{TimelyIsTested}
-use Rattle.mctp_schedule.specs.Logs.{Asked, asked_at}
+use Rattle.mctp_schedule.specs.Logs.{Asked, asked_at, endpoint_of}
 use Rattle.mctp_schedule.specs.OncePerformed.{FitsPackets, RepliesFit}
 use Rattle.mctp_schedule.specs.RequesterHalf.{IsSound, IsTimelySchedule}
 use Rattle.mctp_schedule.specs.Worlds.{BothEnds, NeverWentBack, asked_by, is_timely, world}
 use Rattle.pldm_platform.specs.Changes.{changed_or}
 use Rattle.pldm_platform.specs.declared.platform.ReadingFault.{ReadingFault}
 use Rattle.pldm_platform.specs.declared.platform.ReadingFault.TheVariants.{NoSuchSensor}
+use Rattle.pldm_requester.specs.Asks.{ask_of}
 use Rattle.pldm_requester.specs.Pacing.{at_default}
 use Rattle.pldm_responder.specs.Performing.{Rules, after_command, answer_to, next, next_after, reply, reply_to, rules_of}
 use Rattle.pldm_wire.specs.Answers.{answer_message}
@@ -31,9 +32,10 @@ use Rattle.pldm_wire.specs.declared.answer.Answer.{Answer}
 use Rattle.pldm_wire.specs.declared.answer.Answer.TheVariants as answers
 use Rattle.pldm_wire.specs.declared.command.Command.{Command}
 use Rattle.pldm_wire.specs.declared.command.Command.TheVariants.{GetTid, SetTid}
-use Rattle.schedule_text.specs.declared.step.Action.{Action}
-use Rattle.schedule_text.specs.declared.step.Action.TheVariants.{Open, Reply, Request, Sense}
-use Rattle.schedule_text.specs.declared.step.Step.{Step}
+use Rattle.mctp_schedule.specs.Actions.{Action}
+use Rattle.mctp_schedule.specs.Actions.{open_for, Reply, Request, Sense}
+use Rattle.mctp_schedule.specs.Actions.{Step}
+use Rattle.mctp_schedule.proofs.PremiseTests.{all_rest, are_of_kinds, are_rested}
 
 -- ---- the device: it posted no event yet, holds it, or has dropped it
 data Stage : Type 0 where
@@ -190,21 +192,21 @@ abbrev at : ℕ → Action → Step
 at moment action = record { moment = moment; action = action }
 
 abbrev polls : List Step
-polls = at 40 (Reply 0 0) ∷ at 30 (Request 0) ∷ at 20 (Open 8 GetTid) ∷ at 10 (Sense 1 (pos 0)) ∷ []
+polls = at 40 (Reply 0 0) ∷ at 30 (Request 0) ∷ at 20 (open_for 8 GetTid) ∷ at 10 (Sense 1 (pos 0)) ∷ []
 
 -- the acknowledgement comes twice
 abbrev steps : List Step
-steps = at 60 (Reply 0 1) ∷ at 58 (Request 1) ∷ at 55 (Request 1) ∷ at 50 (Open 8 (SetTid 1)) ∷ polls
+steps = at 60 (Reply 0 1) ∷ at 58 (Request 1) ∷ at 55 (Request 1) ∷ at 50 (open_for 8 (SetTid 1)) ∷ polls
 
 timely : is_timely setting steps ≡ true
 unfolding request_of command_of response_of
 timely = refl
 
 abbrev poll : Asked
-poll = asked_by setting (world setting []) 20 8 GetTid
+poll = asked_by setting (world setting []) 20 8 (ask_of GetTid)
 
 abbrev acknowledgement : Asked
-acknowledgement = asked_by setting (world setting polls) 50 8 (SetTid 1)
+acknowledgement = asked_by setting (world setting polls) 50 8 (ask_of (SetTid 1))
 
 same : (P : Asked → Type 0) (q : Asked) → P q → (r : Asked) → Some q ≡ Some r → P r
 same P q x r e = subst P (let y : q ≡ r = cc in y) x
@@ -214,10 +216,10 @@ either P q p x y true c r e = same P q x r e
 either P q p x y false true r e = same P p y r e
 either P q p x y false false r e = absurd (cc)
 
-from_eight : (k : ℕ) (r : Asked) → asked_at (world setting steps).log k ≡ Some r → IsEid r.source × (r.source ≢ 9)
+from_eight : (k : ℕ) (r : Asked) → asked_at (world setting steps).log k ≡ Some r → IsEid (endpoint_of r.source) × (endpoint_of r.source ≢ 9)
 unfolding request_of command_of response_of
 from_eight k r e =
-    either (λ (q : Asked). IsEid q.source × (q.source ≢ 9)) acknowledgement poll ((omega arith, omega arith), omega arith) ((omega arith, omega arith), omega arith) (k == 1) (k == 0) r e
+    either (λ (q : Asked). IsEid (endpoint_of q.source) × (endpoint_of q.source ≢ 9)) acknowledgement poll ((omega arith, omega arith), omega arith) ((omega arith, omega arith), omega arith) (k == 1) (k == 0) r e
 
 abbrev Fits : Stage → Asked → Type 0
 Fits stage q = FitsPackets (reply device stage q.message)
@@ -237,8 +239,12 @@ fit = (
   (λ r e fresh. same (Fits Holding) acknowledgement (acknowledgement_fits Holding) r e, (λ r e fresh. same (Fits Holding) poll poll_fits r e, tt)),
 )
 
+rested : all_rest 1000 (world setting steps).log ≡ true
+unfolding request_of command_of response_of
+rested = refl
+
 sound : IsSound setting steps
-sound = record { device = (omega arith, omega arith); sources = from_eight; fit = fit; pace = record { within = omega arith; window = inr refl }; reads = λ kind. refl }
+sound = record { device = (omega arith, omega arith); sources = from_eight; fit = fit; pace = record { within = omega arith; window = inr refl }; asks = are_of_kinds steps refl; rested = are_rested 1000 (world setting steps).log rested }
 
 in_order : NeverWentBack steps
 in_order = (omega arith, (omega arith, (omega arith, (omega arith, (omega arith, (omega arith, (omega arith, (omega arith, tt))))))))

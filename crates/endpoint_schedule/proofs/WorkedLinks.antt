@@ -2,9 +2,9 @@
 -- the device answers two requests out of order, and restarts with a third one pending, whose answer nobody gets. What no
 -- step delivers is lost. Steps have the newest first.
 use Rattle.std.specs.FinMap as map
-use Rattle.std.proofs.Common.{◌≡◌, ⊎_elim, ℕ, zero, suc, ◌+◌, ◌-◌, ◌≤◌, Bool, true, false, cond, List, [], ◌∷◌, length, Option, Some, None, Ok, refl, sym, ap, ◌∙◌, subst, inl, arith}
-use Rattle.std.specs.Prelude.{◌&&◌, ◌||◌, ◌==◌, nat_le, is_some, option_map, slice_get, take, if◌then◌else◌}
-use Rattle.std.proofs.lemmas.Bool.{cases_Bool, cond-true, leb-true}
+use Rattle.std.proofs.Common.{◌≡◌, ◌≢◌, ⊎_elim, ℕ, zero, suc, ◌+◌, ◌-◌, ◌%◌, ◌<◌, ◌≤◌, Bool, true, false, cond, List, [], ◌∷◌, length, Option, Some, None, Ok, refl, sym, ap, ◌∙◌, subst, inl, arith}
+use Rattle.std.specs.Prelude.{◌&&◌, ◌||◌, ◌==◌, nat_lt, nat_le, is_some, option_map, slice_get, take, if◌then◌else◌}
+use Rattle.std.proofs.lemmas.Bool.{and_parts, cases_Bool, cond-true, leb-true, ltb-true}
 use Rattle.mctp_packet.specs.Laws.{SpelledIsReadFor, WrittenSpells}
 use Rattle.mctp_packet.specs.Packets.{IsPacket, Packet, written}
 use Rattle.mctp_packet.specs.Passing.{passed}
@@ -20,6 +20,7 @@ use Rattle.pldm_endpoint.specs.declared.step.ReceiveRefusal.TheVariants.{Full, S
 use Rattle.pldm_endpoint.specs.declared.step.Step.TheVariants as taken
 use Rattle.pldm_endpoint.proofs.KeyOrder.{request_keys_total}
 use Rattle.pldm_endpoint.proofs.PendingGlue.{just_put}
+use Rattle.pldm_requester.specs.Asks.{ask_of}
 use Rattle.pldm_requester.specs.Courses.{Answered, Waiting}
 use Rattle.pldm_requester.specs.Numbering.{message_of}
 use Rattle.pldm_requester.specs.Pacing.{at_default}
@@ -55,13 +56,14 @@ use Rattle.pldm_wire.specs.declared.answer.Answer.TheVariants as the_answers
 use Rattle.pldm_wire.specs.declared.command.Command.TheVariants.{GetTid}
 use Rattle.pldm_wire.specs.declared.restart_policy.RestartPolicy.TheVariants.{All}
 use Rattle.mctp_schedule.specs.Askers.{packet_bytes}
-use Rattle.mctp_schedule.specs.Logs.{Asked, asked_at, message_at}
+use Rattle.mctp_schedule.specs.Logs.{Asked, Happening, Opened, Delivered, Sensed, WentDown, asked_at, count_of, endpoint_of, message_at}
 use Rattle.mctp_schedule.specs.OncePerformed.{FitsPackets}
 use Rattle.mctp_schedule.specs.Timely.{ComesInTime}
 use Rattle.mctp_schedule.specs.Worlds.{requests_of}
 use Rattle.mctp_schedule.proofs.DeliveryChanges.{brings_message, held_whole, packet_for}
-use Rattle.mctp_schedule.proofs.PremiseTests.{all_from_requesters, sources_of}
-use Rattle.endpoint_schedule.specs.Links.{Answers, AreInTime, Assigns, Delivers, IsFirst, IsRun, Link, LinkSettings, LinkStep, NeverGoesBack, Opens, Passes, Receives, Refuses, Restarts, link, over_time}
+use Rattle.mctp_schedule.proofs.FirstPerformed.{request_opened}
+use Rattle.mctp_schedule.proofs.PremiseTests.{all_from_requesters, all_rest, are_rested, sources_of}
+use Rattle.endpoint_schedule.specs.Links.{Answers, AreInTime, Assigns, Delivers, IsFirst, IsRun, IsShort, Link, LinkSettings, LinkStep, NeverGoesBack, Opens, Passes, Receives, Refuses, Restarts, link, over_time}
 use Rattle.endpoint_schedule.specs.OverTime.{IsTimelyLink, reply_of}
 
 abbrev settings : LinkSettings
@@ -69,9 +71,13 @@ settings = record {
   eid = 9;
   keep = 1000;
   window = 2;
+  handed_on = none_handed_on;
   requesters = record { eid = 8; timeout = 200; tries = 3 } ∷ [];
   pace = at_default 1000;
 }
+
+short : IsShort (ask_of GetTid)
+short = record { kind = omega arith; few = omega arith }
 
 -- to each asking it gives another terminus ID
 abbrev given_for : ℕ → Given
@@ -388,10 +394,10 @@ abbrev goes_out : PendingCommand → ℕ → Outcome
 goes_out a n = outcome_of_answer (hands_on none_handed_on) 9 8 a.tag a.request (given_for n)
 
 abbrev past_first : List LinkStep
-past_first = Opens 0 8 GetTid ∷ []
+past_first = Opens 0 8 (ask_of GetTid) ∷ []
 
 abbrev past_second : List LinkStep
-past_second = Opens 3 8 GetTid ∷ Refuses 2 served_one ∷ Receives 1 0 served_one (taken.Perform (handle 0)) ∷ past_first
+past_second = Opens 3 8 (ask_of GetTid) ∷ Refuses 2 served_one ∷ Receives 1 0 served_one (taken.Perform (handle 0)) ∷ past_first
 
 abbrev past_answers : List LinkStep
 past_answers =
@@ -402,7 +408,7 @@ abbrev past_first_answer : List LinkStep
 past_first_answer = Delivers 7 0 1 ∷ past_answers
 
 abbrev past_third : List LinkStep
-past_third = Opens 9 8 GetTid ∷ Delivers 8 0 0 ∷ past_first_answer
+past_third = Opens 9 8 (ask_of GetTid) ∷ Delivers 8 0 0 ∷ past_first_answer
 
 abbrev past_restart : List LinkStep
 past_restart = Restarts 11 restarted ∷ Receives 10 2 served_third (taken.Perform (handle 2)) ∷ past_third
@@ -510,7 +516,7 @@ module _ (spells : WrittenSpells) (read_for : SpelledIsReadFor) where
     (
       (asked 2 9, refl, refl, third_served),
       (
-        tt,
+        short,
         (
           tt,
           (
@@ -522,10 +528,10 @@ module _ (spells : WrittenSpells) (read_for : SpelledIsReadFor) where
                 (
                   (asked 1 3, refl, refl, second_served),
                   (
-                    tt,
+                    short,
                     (
                       unchanged served_one,
-                      ((asked 0 0, refl, refl, first_served), (tt, tt)),
+                      ((asked 0 0, refl, refl, first_served), (short, tt)),
                     ),
                   ),
                 ),
@@ -538,6 +544,27 @@ module _ (spells : WrittenSpells) (read_for : SpelledIsReadFor) where
   )
 
 -- ---- in time
+-- no requester begins anew
+abbrev all_first : List Happening → Bool
+all_first [] = true
+all_first (Opened r ∷ past) = nat_lt r.source 256 && all_first past
+all_first (_ ∷ past) = all_first past
+
+first_each : (log : List Happening) → all_first log ≡ true → (k : ℕ) (r : Asked) → asked_at log k ≡ Some r → r.source < 256
+first_each [] t k r is = absurd (cc)
+first_each (Opened q ∷ past) t k r is =
+    let parts = and_parts (nat_lt q.source 256) (all_first past) t in
+    ⊎_elim
+    (λ (x : (k ≡ count_of past) × (q ≡ r)). subst (λ (o : Asked). o.source < 256) x.1 (ltb-true q.source 256 parts.0))
+    (λ (x : (k ≢ count_of past) × (asked_at past k ≡ Some r)). first_each past parts.1 k r x.1)
+    (request_opened q past k r is)
+first_each (Delivered moment n ∷ past) t k r is = first_each past t k r is
+first_each (Sensed moment id value ∷ past) t k r is = first_each past t k r is
+first_each (WentDown moment ∷ past) t k r is = first_each past t k r is
+
+none_anew : (log : List Happening) → all_first log ≡ true → (k : ℕ) (r q : Asked) (i : ℕ) → asked_at log k ≡ Some r → asked_at log i ≡ Some q → endpoint_of q.source ≡ endpoint_of r.source → r.source < q.source → q.own % 8 ≢ r.own % 8
+none_anew log first k r q i is its same later = absurd (let a = first_each log first k r is in let b = first_each log first i q its in omega (arith, a, b, same, later))
+
 in_order : NeverGoesBack steps
 in_order = (omega arith, (omega arith, (omega arith, (omega arith, (omega arith, (omega arith, (omega arith, (omega arith, (omega arith, (omega arith, (omega arith, (omega arith, (omega arith, (omega arith, tt))))))))))))))
 
@@ -550,9 +577,9 @@ are_in_time = (
     (
       tt,
       (
-        λ bytes is r e. same (λ q. (requests_of (over_time settings given_for) (there past_first_answer).world q.source).count ≤ q.own + 8) (asked 0 0) (omega arith) r e,
+        λ bytes is. record { own = λ r e. same (λ q. (requests_of (over_time settings given_for) (there past_first_answer).world q.source).count ≤ q.own + 8) (asked 0 0) (omega arith) r e; anew = none_anew (there past_first_answer).world.log refl 0 },
         (
-          λ bytes is r e. same (λ q. (requests_of (over_time settings given_for) (there past_answers).world q.source).count ≤ q.own + 8) (asked 1 3) (omega arith) r e,
+          λ bytes is. record { own = λ r e. same (λ q. (requests_of (over_time settings given_for) (there past_answers).world q.source).count ≤ q.own + 8) (asked 1 3) (omega arith) r e; anew = none_anew (there past_answers).world.log refl 1 },
           (
             tt,
             (
@@ -580,7 +607,7 @@ are_in_time = (
 
 -- ---- what the device gives fits
 abbrev fits : (own n : ℕ) → Type 0
-fits own n = FitsPackets (reply_of (given_for n) (message_of own GetTid))
+fits own n = FitsPackets (reply_of none_handed_on (given_for n) (message_of own GetTid))
 
 fits_0 : fits 0 0
 unfolding request_of command_of
@@ -594,16 +621,20 @@ fits_2 : fits 2 2
 unfolding request_of command_of
 fits_2 = record { some = omega arith; few = omega arith }
 
-all_fit : (n k : ℕ) (r : Asked) → slice_get (there steps).handed_out n ≡ Some k → asked_at (there steps).world.log k ≡ Some r → FitsPackets (reply_of (given_for n) r.message)
+all_fit : (n k : ℕ) (r : Asked) → slice_get (there steps).handed_out n ≡ Some k → asked_at (there steps).world.log k ≡ Some r → FitsPackets (reply_of none_handed_on (given_for n) r.message)
 unfolding request_of command_of response_of
-all_fit zero k r out e = same (λ q. FitsPackets (reply_of (given_for 0) q.message)) (asked 0 0) fits_0 r (let at : k ≡ 0 = cc in ap (asked_at (there steps).world.log) (sym at) ∙ e)
-all_fit (suc zero) k r out e = same (λ q. FitsPackets (reply_of (given_for 1) q.message)) (asked 1 3) fits_1 r (let at : k ≡ 1 = cc in ap (asked_at (there steps).world.log) (sym at) ∙ e)
-all_fit (suc (suc zero)) k r out e = same (λ q. FitsPackets (reply_of (given_for 2) q.message)) (asked 2 9) fits_2 r (let at : k ≡ 2 = cc in ap (asked_at (there steps).world.log) (sym at) ∙ e)
+all_fit zero k r out e = same (λ q. FitsPackets (reply_of none_handed_on (given_for 0) q.message)) (asked 0 0) fits_0 r (let at : k ≡ 0 = cc in ap (asked_at (there steps).world.log) (sym at) ∙ e)
+all_fit (suc zero) k r out e = same (λ q. FitsPackets (reply_of none_handed_on (given_for 1) q.message)) (asked 1 3) fits_1 r (let at : k ≡ 1 = cc in ap (asked_at (there steps).world.log) (sym at) ∙ e)
+all_fit (suc (suc zero)) k r out e = same (λ q. FitsPackets (reply_of none_handed_on (given_for 2) q.message)) (asked 2 9) fits_2 r (let at : k ≡ 2 = cc in ap (asked_at (there steps).world.log) (sym at) ∙ e)
 all_fit (suc (suc (suc n))) k r out e = absurd (cc)
 
 from_eight : all_from_requesters 9 (there steps).world.log ≡ true
 unfolding request_of command_of response_of
 from_eight = refl
+
+rested : all_rest 1000 (there steps).world.log ≡ true
+unfolding request_of command_of response_of
+rested = refl
 
 is_met : WrittenSpells → SpelledIsReadFor → IsTimelyLink settings given_for first_end steps
 is_met spells read_for = record {
@@ -622,6 +653,7 @@ is_met spells read_for = record {
     sources = sources_of 9 (there steps).world.log from_eight;
     fit = all_fit;
     pace = record { within = omega arith; window = inl (omega arith) };
+    rested = are_rested 1000 (there steps).world.log rested;
   };
 }
 

@@ -7,7 +7,7 @@ use Rattle.endpoint_schedule.specs.EventReceiving.{AsksInTurn, following}
 use Rattle.mctp_schedule.specs.OncePerformed.{once}
 use Rattle.mctp_schedule.specs.RequesterHalf.{IsTimelySchedule}
 use Rattle.mctp_schedule.specs.Worlds.{BothEnds, world}
-use Rattle.schedule_text.specs.declared.step.Step.{Step}
+use Rattle.mctp_schedule.specs.Actions.{Step}
 
 -- the queue of the device, which performs each request that arrived once
 abbrev pub queue_after : {S : Type 0} → BothEnds S → EventDevice S → List Step → QueueView

@@ -7,12 +7,12 @@ use Rattle.event_queue.specs.Runs.{id_in, taken_after}
 use Rattle.event_queue.specs.declared.receiver.EventRequest.{EventRequest}
 use Rattle.endpoint_schedule.specs.EventDevices.{EventDevice}
 use Rattle.mctp_schedule.specs.Worlds.{BothEnds, World, asked_by, requests_of, timing_of, world}
+use Rattle.pldm_requester.specs.Asks.{Ask}
 use Rattle.pldm_requester.specs.Calls.{accepts}
 use Rattle.pldm_requester.specs.Courses.{Progress, Waiting, Answered, GaveUp}
-use Rattle.pldm_wire.specs.declared.command.Command.{Command}
-use Rattle.schedule_text.specs.declared.step.Action.{Action}
-use Rattle.schedule_text.specs.declared.step.Action.TheVariants.{Open}
-use Rattle.schedule_text.specs.declared.step.Step.{Step}
+use Rattle.mctp_schedule.specs.Actions.{Action}
+use Rattle.mctp_schedule.specs.Actions.{Open}
+use Rattle.mctp_schedule.specs.Actions.{Step}
 
 -- the receiver, its requester's number of its open request, and the events that it took, the oldest first
 pub record Following : Type 0 where
@@ -47,13 +47,13 @@ module _ {S : Type 0} (setting : BothEnds S) (events : EventDevice S) (e : ℕ) 
   settled w f (Some number) = gone_on f ((requests_of setting w e).each number).course.progress
 
   -- what an accepted open asks of the device's queue
-  abbrev pub opens : World → ℕ → ℕ → Command → Option EventRequest
-  opens w moment at command = events.asks (asked_by setting w moment at command).message
+  abbrev pub opens : World → ℕ → ℕ → Ask → Option EventRequest
+  opens w moment at ask = events.asks (asked_by setting w moment at ask).message
 
   abbrev pub with_action : World → Following → ℕ → Action → Following
-  with_action w f moment (Open at command) =
+  with_action w f moment (Open at ask) =
       if at == e && accepts (timing_of setting at).keep setting.pace (requests_of setting w at) moment
-      then with_open f (requests_of setting w at).count (opens w moment at command)
+      then with_open f (requests_of setting w at).count (opens w moment at ask)
       else f
   with_action w f moment _ = f
 
@@ -65,10 +65,10 @@ module _ {S : Type 0} (setting : BothEnds S) (events : EventDevice S) (e : ℕ) 
 
   -- only this requester asks for events: what the receiver asks next, where it has no request open
   abbrev pub AsksAsReceiver : World → Following → ℕ → Action → Type 0
-  AsksAsReceiver w f moment (Open at command) =
+  AsksAsReceiver w f moment (Open at ask) =
       (request : EventRequest)
       → accepts (timing_of setting at).keep setting.pace (requests_of setting w at) moment ≡ true
-      → opens w moment at command ≡ Some request
+      → opens w moment at ask ≡ Some request
       → (at ≡ e) × (f.open_one ≡ None) × (request ≡ f.receiver.request)
   AsksAsReceiver w f moment _ = Unit {0}
 

@@ -4,3 +4,4 @@ pub mod RecentDeliveries
 pub mod EventDevices
 pub mod EventReceiving
 pub mod EventLaws
+pub mod UpdatesOverSchedules

@@ -1,8 +1,9 @@
--- Both ends of a link whose device answers in its own time: any requesters of this work, and one endpoint. What a call
--- of the endpoint returns and leaves is what its contract says. What no step delivers is lost, and what is delivered
--- again is a repeat. Steps have the newest first.
-use Rattle.std.specs.Prelude.{◌≡◌, ℕ, ◌≤◌, ◌==◌, Bool, not, List, [], ◌∷◌, ◌++◌, Option, Some, None, option_and_then, slice_get, if◌then◌else◌}
+-- Both ends of a link whose device answers in its own time: any requesters of this work, and one endpoint. A requester
+-- may begin anew at its endpoint. What a call of the endpoint returns and leaves is what its contract says. What no step
+-- delivers is lost, and what is delivered again is a repeat. Steps have the newest first.
+use Rattle.std.specs.Prelude.{◌≡◌, ◌≢◌, ℕ, ◌+◌, ◌%◌, ◌<◌, ◌≤◌, ◌==◌, Bool, not, List, [], ◌∷◌, ◌++◌, length, Option, Some, None, option_and_then, slice_get, if◌then◌else◌}
 use Rattle.mctp_packet.specs.Ids.{IsEid}
+use Rattle.mctp_packet.specs.declared.TheConstants.{BASELINE_UNIT, TAGS}
 use Rattle.pldm_endpoint.specs.Histories.{in_turn}
 use Rattle.pldm_endpoint.specs.Receiving.{HasAnswered, HasForgotten, HasReceived, IsAsBefore, IsNewEndpoint}
 use Rattle.pldm_endpoint.specs.TwoSteps.{EndpointView, held_in, request_in}
@@ -16,32 +17,34 @@ use Rattle.pldm_responder.specs.Steps.{assigned_held, restarted_held}
 use Rattle.pldm_responder.specs.declared.bounds.Bounds.{Bounds}
 use Rattle.pldm_responder.specs.declared.outcome.Outcome.{Outcome}
 use Rattle.pldm_responder.specs.declared.responder_settings.ResponderSettings.{ResponderSettings}
-use Rattle.pldm_wire.specs.Commands.{IsCommand}
-use Rattle.pldm_wire.specs.HandingOn.{none_handed_on}
-use Rattle.pldm_wire.specs.declared.command.Command.{Command}
+use Rattle.pldm_requester.specs.Asks.{Ask}
+use Rattle.pldm_wire.specs.Kinds.{IsKind}
+use Rattle.pldm_wire.specs.declared.assigned.TheConstants.{REQUEST_HEADER}
+use Rattle.pldm_wire.specs.declared.pass_through.PassThrough.{PassThrough}
 use Rattle.pldm_wire.specs.declared.restart_policy.RestartPolicy.TheVariants.{All}
 use Rattle.mctp_schedule.specs.Askers.{packet_bytes}
 use Rattle.mctp_schedule.specs.Deliveries.{packets_of_outcome}
 use Rattle.mctp_schedule.specs.FirstArrivals.{arrives_at}
-use Rattle.mctp_schedule.specs.Logs.{Asked, asked_at}
+use Rattle.mctp_schedule.specs.Logs.{Asked, asked_at, endpoint_of}
 use Rattle.mctp_schedule.specs.Timely.{ComesInTime}
 use Rattle.mctp_schedule.specs.Worlds.{BothEnds, TagIsOwn, World, done, handed, source_of}
-use Rattle.schedule_text.specs.declared.step.Action.TheVariants as actions
+use Rattle.mctp_schedule.specs.Actions as actions
 use Rattle.schedule_text.specs.declared.step.RequesterLine.{RequesterLine}
 
 -- the endpoint ID that the requesters ask, which the device's end has at first; the keeping time of both ends, the
--- window of the device's end, and the requesters with their pace
+-- window of the device's end, and which requests it hands on as bytes; the requesters with their pace
 pub record LinkSettings : Type 0 where
   pub eid : ℕ
   pub keep : ℕ
   pub window : ℕ
+  pub handed_on : PassThrough
   pub requesters : List RequesterLine
   pub pace : Pace
 
 -- both ends with a device that gives this for what it is asked, by number
 abbrev pub over_time : LinkSettings → (ℕ → Given) → BothEnds ℕ
 over_time settings answers = record {
-  device = in_turn none_handed_on answers;
+  device = in_turn settings.handed_on answers;
   start = 0;
   eid = settings.eid;
   keep = settings.keep;
@@ -50,11 +53,17 @@ over_time settings answers = record {
   pace = settings.pace;
 }
 
+-- what is asked is of a PLDM type that there is, and one packet carries it
+pub record IsShort (ask : Ask) : Type 0 where
+  pub kind : IsKind ask.kind
+  pub few : length ask.rest + REQUEST_HEADER ≤ BASELINE_UNIT
+
 -- each at its moment
 pub data LinkStep : Type 0 where
-  -- the requester at an endpoint is called: to open a request, and at a tick
-  Opens : (moment eid : ℕ) → (command : Command) → LinkStep
-  Ticks : (moment eid : ℕ) → LinkStep
+  -- a requester is called: to open a request, and at a tick. One that begins anew at its endpoint is another one, and has
+  -- 256 more as its number
+  Opens : (moment requester : ℕ) → (ask : Ask) → LinkStep
+  Ticks : (moment requester : ℕ) → LinkStep
   -- the packet of request k comes to the endpoint, which is `new` then; this is what became of it
   Receives : (moment k : ℕ) → (new : EndpointView) → (step : Step) → LinkStep
   -- any other packet comes, of which no request is whole; this is what became of it
@@ -131,7 +140,7 @@ module _ (settings : LinkSettings) (answers : ℕ → Given) where
       record l { world = handed setting l.world moment (source_of (asked_at l.world.log k)) packet }
 
   abbrev pub after : Link → LinkStep → Link
-  after l (Opens moment e command) = record l { world = done setting l.world moment (actions.Open e command) }
+  after l (Opens moment e ask) = record l { world = done setting l.world moment (actions.Open e ask) }
   after l (Ticks moment e) = record l { world = done setting l.world moment (actions.Tick e) }
   after l (Receives moment k new step) = received l moment k new step
   after l (Passes moment bytes new step) = record l { end = new }
@@ -145,14 +154,14 @@ module _ (settings : LinkSettings) (answers : ℕ → Given) where
   after l (Restarts moment new) = record l { end = new; world = done setting l.world moment actions.Restart }
   after l (Assigns moment eid new) = record l { end = new; world = done setting l.world moment actions.Restart }
 
-  -- a command is one that there is; the endpoint did this by the contract of its call, and `answers` says what the
+  -- a request is one of one packet; the endpoint did this by the contract of its call, and `answers` says what the
   -- device gives for each number. While the endpoint has another endpoint ID than the requesters ask, no request of
   -- theirs is whole there: its packet passes.
   abbrev pub IsStep : Link → LinkStep → Type 0
-  IsStep l (Opens moment e command) = IsCommand command
+  IsStep l (Opens moment e ask) = IsShort ask
   IsStep l (Receives moment k new step) =
       (r : Asked) × (asked_at l.world.log k ≡ Some r) × (l.end.end.own ≡ settings.eid)
-      × HasReceived l.end moment (packet_bytes r.source settings.eid r.own r.message) new step
+      × HasReceived l.end moment (packet_bytes (endpoint_of r.source) settings.eid r.own r.message) new step
   IsStep l (Passes moment bytes new step) =
       HasReceived l.end moment bytes new step × (request_in (held_in l.end) moment bytes ≡ None)
   IsStep l (Refuses moment new) = IsAsBefore new l.end
@@ -163,6 +172,13 @@ module _ (settings : LinkSettings) (answers : ℕ → Given) where
       IsEid eid × IsHeld (held_in new) (assigned_held (held_in l.end) moment eid) × HasForgotten new l.end
   IsStep l _ = Unit {0}
 
+  -- request k's tag was not used again, by its requester or by one that began anew at the endpoint
+  pub record TagIsFree (l : Link) (k : ℕ) : Type 0 where
+    pub own : TagIsOwn setting l.world k
+    pub anew :
+        (r q : Asked) (i : ℕ) → asked_at l.world.log k ≡ Some r → asked_at l.world.log i ≡ Some q
+        → endpoint_of q.source ≡ endpoint_of r.source → r.source < q.source → q.own % TAGS ≢ r.own % TAGS
+
   -- a request's packet comes less than the lifetime after its opening and within the window, and a packet of an answer
   -- while its tag was not used again
   abbrev pub IsTimelyStep : Link → LinkStep → Type 0
@@ -170,9 +186,9 @@ module _ (settings : LinkSettings) (answers : ℕ → Given) where
       (r : Asked) → asked_at l.world.log k ≡ Some r
       → ComesInTime ℕ settings.window settings.keep settings.pace.lifetime l.world.log moment k r
   IsTimelyStep l (Delivers moment j k) =
-      (bytes : List ℕ) → packet_in (l.sent k) j ≡ Some bytes → TagIsOwn setting l.world k
+      (bytes : List ℕ) → packet_in (l.sent k) j ≡ Some bytes → TagIsFree l k
   IsTimelyStep l (DeliversNotReady moment k) =
-      (bytes : List ℕ) → packet_in (l.not_ready k) 0 ≡ Some bytes → TagIsOwn setting l.world k
+      (bytes : List ℕ) → packet_in (l.not_ready k) 0 ≡ Some bytes → TagIsFree l k
   IsTimelyStep l _ = Unit {0}
 
   module _ (first : EndpointView) where
@@ -196,7 +212,7 @@ module _ (settings : LinkSettings) (answers : ℕ → Given) where
     AreInTime (step ∷ past) = IsTimelyStep (link past) step × AreInTime past
 
 abbrev pub moment_of : LinkStep → ℕ
-moment_of (Opens moment e command) = moment
+moment_of (Opens moment e ask) = moment
 moment_of (Ticks moment e) = moment
 moment_of (Receives moment k new step) = moment
 moment_of (Passes moment bytes new step) = moment
@@ -216,12 +232,11 @@ abbrev pub NeverGoesBack : List LinkStep → Type 0
 NeverGoesBack [] = Unit {0}
 NeverGoesBack (step ∷ past) = (now past ≤ moment_of step) × NeverGoesBack past
 
--- the endpoint at first: a new one with these settings, which hands on no request as bytes and refuses all requests in
--- the busy time
+-- the endpoint at first: a new one with these settings, which refuses all requests in the busy time
 pub record IsFirst
     (settings : LinkSettings) (keeping : ResponderSettings) (limits : Bounds) (most : ℕ) (first : EndpointView)
     : Type 0 where
-  pub new : IsNewEndpoint (Some settings.eid) keeping none_handed_on limits most first
+  pub new : IsNewEndpoint (Some settings.eid) keeping settings.handed_on limits most first
   pub busy : keeping.busy ≡ All
   pub window : keeping.window ≡ settings.window
   pub keep : keeping.keep ≡ settings.keep

@@ -4,8 +4,8 @@ use Rattle.pldm_wire.specs.declared.assigned.TheConstants.{INSTANCE_IDS}
 use Rattle.mctp_schedule.specs.Logs.{Asked, asked_at}
 use Rattle.mctp_schedule.specs.RequesterHalf.{IsTimelySchedule}
 use Rattle.mctp_schedule.specs.Worlds.{BothEnds, IsTimelyAction, requests_of, time_now, world}
-use Rattle.schedule_text.specs.declared.step.Action.TheVariants.{Request}
-use Rattle.schedule_text.specs.declared.step.Step.{Step}
+use Rattle.mctp_schedule.specs.Actions.{Request}
+use Rattle.mctp_schedule.specs.Actions.{Step}
 
 -- over a timely schedule a request comes while its requester opened at most 31 after it
 abbrev pub ComesWhileRecent : {S : Type 0} → BothEnds S → Type 0

@@ -1,17 +1,18 @@
 //! Laws of both ends, over the definitions alone: each function does nothing and ensures its law.
 
-ghost use Rattle.endpoint_schedule.specs.OverTime.{BothEndsOverTime};
+ghost use Rattle.endpoint_schedule.specs.OverTime.{BothEndsOverTime, LinksAreSchedules};
 ghost use Rattle.endpoint_schedule.specs.EventLaws.{EventsOverSchedules};
 ghost use Rattle.endpoint_schedule.specs.RecentDeliveries.{ComesWhileRecent};
+ghost use Rattle.endpoint_schedule.specs.UpdatesOverSchedules.{ImageOverSchedules};
 ghost use Rattle.mctp_schedule.specs.Worlds.{BothEnds};
 
 use pldm_platform::Platform;
 
 /// In every timely run of requesters and an endpoint whose device answers when it likes and whatever it likes, or
-/// never: what is handed out is, in order and once each, the requests that arrived, each at its first arrival, but for
-/// those that are refused by their code; all that goes out to a request is the one message made of what the device gave
-/// for that very request, or of the code that refuses it; and each answer that a requester took is that message, of its
-/// own request. What a bound refuses counts as lost.
+/// never: what is handed out, as a command or, so made, as bytes, is, in order and once each, the requests that arrived,
+/// each at its first arrival, but for those that are refused by their code; all that goes out to a request is the one
+/// message made of what the device gave for that very request, or of the code that refuses it; and each answer that a
+/// requester took is that message, of its own request. What a bound refuses counts as lost.
 pub fn both_ends_over_time()
     ensures { BothEndsOverTime }
 {
@@ -20,8 +21,21 @@ pub fn both_ends_over_time()
     mctp_packet::laws::split_packets_read_back();
     mctp_assembly::laws::looks_back();
     pldm_wire::laws::messages_are_told_apart();
-    pldm_wire::laws::commands_are_read_back();
-    pldm_wire::laws::messages_fit();
+    pldm_requester::laws::one_open_on_each_tag();
+    pldm_requester::laws::instance_ids_are_apart();
+}
+
+/// In every such run the requesters' calls and what happened on the link are those of a timely schedule of them and of a
+/// device that answers at once with what this one gives for each number. So laws of schedules, as [`images_are_offered`]
+/// and those of `mctp_schedule`, are laws of such runs.
+pub fn links_are_schedules()
+    ensures { LinksAreSchedules }
+{
+    mctp_packet::laws::bytes_spell_one_packet();
+    mctp_packet::laws::reading_is_spelling();
+    mctp_packet::laws::split_packets_read_back();
+    mctp_assembly::laws::looks_back();
+    pldm_wire::laws::messages_are_told_apart();
     pldm_requester::laws::one_open_on_each_tag();
     pldm_requester::laws::instance_ids_are_apart();
 }
@@ -50,4 +64,20 @@ pub fn events_over_schedules<P: Platform>()
     mctp_schedule::laws::requesters_take_the_one_reply::<P>();
     pldm_requester::laws::instance_ids_are_apart();
     event_queue::laws::events_once();
+}
+
+/// Over a timely schedule what a firmware device has its flash verify is its agent's file, byte for byte, where the
+/// transfer began with the file's size (DSP0267): whatever is lost, repeated or reordered, where the agent's end restarts,
+/// and where the device began anew before, with a requester that rested for twice the keeping time.
+///
+/// The device's machine asks for pieces by a requester of the schedule, and is told as the answer to a request what that
+/// has as the answer to this very request. The agent's end hands such requests on; where it responds with SUCCESS to one
+/// that arrives, it gives the piece of its file. That nothing is activated that was not verified and applied, well, is
+/// `pldm_update::laws::flash_is_in_order`.
+pub fn images_are_offered<P: Platform>()
+    ensures { (setting : BothEnds P.State) → ImageOverSchedules setting }
+{
+    pldm_wire::laws::messages_are_told_apart();
+    mctp_schedule::laws::requesters_take_the_one_reply::<P>();
+    pldm_update::laws::verified_is_whole();
 }

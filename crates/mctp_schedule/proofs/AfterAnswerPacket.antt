@@ -22,14 +22,14 @@ use Rattle.mctp_schedule.specs.Entries.{as_it_stands, got_entry, numbers_of}
 use Rattle.mctp_schedule.specs.HandedPackets.{got_from}
 use Rattle.mctp_schedule.specs.HeldRuns.{HeldRun}
 use Rattle.mctp_schedule.specs.Journals.{answered_as}
-use Rattle.mctp_schedule.specs.Logs.{Asked, asked_at, count_of}
+use Rattle.mctp_schedule.specs.Logs.{Asked, asked_at, count_of, endpoint_of}
 use Rattle.mctp_schedule.specs.Running.{IsOpened, IsRunning, IsSide, answer_action}
 use Rattle.schedule_text.specs.Schedules.{has_requester}
 use Rattle.mctp_schedule.specs.Worlds.{BothEnds, World, handed, is_timely, requests_of, source_of, tag_is_own, time_now, timing_of, with_call, world}
 use Rattle.mctp_schedule.specs.declared.askers.AnsweredRequest.{AnsweredRequest}
 use Rattle.mctp_schedule.specs.declared.entry.Entry.TheVariants as entry
 use Rattle.mctp_schedule.specs.declared.journal.Journal.{Journal}
-use Rattle.schedule_text.specs.declared.step.Step.{Step}
+use Rattle.mctp_schedule.specs.Actions.{Step}
 use Rattle.mctp_schedule.proofs.AskerCalls.{answer_near, answer_of_got, answer_remembered, kept_near, own_below, progress_remembered}
 use Rattle.mctp_schedule.proofs.LoggedRequests.{asked_below}
 use Rattle.mctp_schedule.proofs.AfterCall.{with_side, Writes, called_runs, new_side}
@@ -103,48 +103,48 @@ module _ {S : Type 0} (setting : BothEnds S) (w : World) (moment e : ℕ) (bytes
     pub reports : ReportsReply side.numbers (arrived_by (held_of side.station) (held_steps.passed (held_of side.station) bytes)) answered
 
   module _ (x : Receives) where
-    looked : (got_at (held_of side.station) bytes ≡ got_expected e setting.eid (timing_of setting e) setting.pace (w.calls e) bytes)
-        × IsLeftBy e setting.eid (timing_of setting e) setting.pace (received_held (held_of side.station) moment bytes) (requester.Receive moment bytes ∷ w.calls e)
-    looked = x.looks e setting.eid (timing_of setting e) setting.pace (held_of side.station) (w.calls e) moment bytes s.left
+    looked : (got_at (held_of side.station) bytes ≡ got_expected (endpoint_of e) setting.eid (timing_of setting e) setting.pace (w.calls e) bytes)
+        × IsLeftBy (endpoint_of e) setting.eid (timing_of setting e) setting.pace (received_held (held_of side.station) moment bytes) (requester.Receive moment bytes ∷ w.calls e)
+    looked = x.looks (endpoint_of e) setting.eid (timing_of setting e) setting.pace (held_of side.station) (w.calls e) moment bytes s.left
 
-    pub new_left : IsLeftBy e setting.eid (timing_of setting e) setting.pace (held_of new.station) (requester.Receive moment bytes ∷ w.calls e)
-    new_left = x.same e setting.eid (timing_of setting e) setting.pace (held_of new.station) (received_held (held_of side.station) moment bytes) (requester.Receive moment bytes ∷ w.calls e) x.new_held looked.1
+    pub new_left : IsLeftBy (endpoint_of e) setting.eid (timing_of setting e) setting.pace (held_of new.station) (requester.Receive moment bytes ∷ w.calls e)
+    new_left = x.same (endpoint_of e) setting.eid (timing_of setting e) setting.pace (held_of new.station) (received_held (held_of side.station) moment bytes) (requester.Receive moment bytes ∷ w.calls e) x.new_held looked.1
 
-    pub new_count : (requests e setting.eid (timing_of setting e) setting.pace (requester.Receive moment bytes ∷ w.calls e)).count ≡ (requests_of setting w e).count
+    pub new_count : (requests (endpoint_of e) setting.eid (timing_of setting e) setting.pace (requester.Receive moment bytes ∷ w.calls e)).count ≡ (requests_of setting w e).count
     new_count = sym new_left.count ∙ x.new_held.count ∙ s.left.count
 
     -- a request stands as before where this packet is no answer to it
-    stays : (r : Asked) → ((r.source ≡ e) → (m : List ℕ) → arrived e setting.eid (timing_of setting e) (requests_of setting w e) bytes ≡ Answer r.own m → ⊥) → as_it_stands setting v r ≡ as_it_stands setting w r
+    stays : (r : Asked) → ((r.source ≡ e) → (m : List ℕ) → arrived (endpoint_of e) setting.eid (timing_of setting e) (requests_of setting w e) bytes ≡ Answer r.own m → ⊥) → as_it_stands setting v r ≡ as_it_stands setting w r
     stays r other = ap (λ c. record { asked = r; progress = c }) (go (cases_eq r.source e))
       where
         go : (r.source ≡ e) ⊎ (r.source ≡ e → ⊥) → (as_it_stands setting v r).progress ≡ (as_it_stands setting w r).progress
-        go (inr apart) = ap (λ cs. ((requests r.source setting.eid (timing_of setting r.source) setting.pace cs).each r.own).course.progress) (call_other w.calls e (requester.Receive moment bytes) r.source apart)
+        go (inr apart) = ap (λ cs. ((requests (endpoint_of r.source) setting.eid (timing_of setting r.source) setting.pace cs).each r.own).course.progress) (call_other w.calls e (requester.Receive moment bytes) r.source apart)
         go (inl at) =
-            ap (λ d. ((requests d setting.eid (timing_of setting d) setting.pace (v.calls d)).each r.own).course.progress) at
-            ∙ ap (λ cs. ((requests e setting.eid (timing_of setting e) setting.pace cs).each r.own).course.progress) (call_here w.calls e (requester.Receive moment bytes))
-            ∙ ap (λ (c : Course). c.progress) (received_other e setting.eid (timing_of setting e) setting.pace (requests_of setting w e) bytes r.own (other at))
+            ap (λ d. ((requests (endpoint_of d) setting.eid (timing_of setting d) setting.pace (v.calls d)).each r.own).course.progress) at
+            ∙ ap (λ cs. ((requests (endpoint_of e) setting.eid (timing_of setting e) setting.pace cs).each r.own).course.progress) (call_here w.calls e (requester.Receive moment bytes))
+            ∙ ap (λ (c : Course). c.progress) (received_other (endpoint_of e) setting.eid (timing_of setting e) setting.pace (requests_of setting w e) bytes r.own (other at))
             ∙ ap (λ d. ((requests_of setting w d).each r.own).course.progress) (sym at)
 
     -- the one that it answers stands answered
     stands : (r : Asked) (n : ℕ) (m : List ℕ) → r.source ≡ e → r.own ≡ n → brought ≡ Answer n m → (as_it_stands setting v r).progress ≡ courses.Answered m
     stands r n m at own is =
-        let now = requests e setting.eid (timing_of setting e) setting.pace (requester.Receive moment bytes ∷ w.calls e) in
+        let now = requests (endpoint_of e) setting.eid (timing_of setting e) setting.pace (requester.Receive moment bytes ∷ w.calls e) in
         let near = answer_near (held_of side.station) (held_steps.passed (held_of side.station) bytes) n m is in
         let memo = progress_remembered (held_of side.station) (held_of new.station) moment bytes n m x.new_held is in
-        ap (λ d. ((requests d setting.eid (timing_of setting d) setting.pace (v.calls d)).each r.own).course.progress) at
-        ∙ ap (λ cs. ((requests e setting.eid (timing_of setting e) setting.pace cs).each r.own).course.progress) (call_here w.calls e (requester.Receive moment bytes))
+        ap (λ d. ((requests (endpoint_of d) setting.eid (timing_of setting d) setting.pace (v.calls d)).each r.own).course.progress) at
+        ∙ ap (λ cs. ((requests (endpoint_of e) setting.eid (timing_of setting e) setting.pace cs).each r.own).course.progress) (call_here w.calls e (requester.Receive moment bytes))
         ∙ ap (λ k. (now.each k).course.progress) own
-        ∙ memo_progress (is_recent now.count n) (is_kept setting.pace now.count n) (memo_of e setting.eid now n) (courses.Answered m) (kept_near setting.pace now.count n (omega (arith, near.1, x.new_held.count, new_left.count))) (sym (ap (option_map (λ (q : Memo). q.course.progress)) (new_left.remembered n)) ∙ memo)
+        ∙ memo_progress (is_recent now.count n) (is_kept setting.pace now.count n) (memo_of (endpoint_of e) setting.eid now n) (courses.Answered m) (kept_near setting.pace now.count n (omega (arith, near.1, x.new_held.count, new_left.count))) (sym (ap (option_map (λ (q : Memo). q.course.progress)) (new_left.remembered n)) ∙ memo)
 
     pub answered_stands : (k : ℕ) (r : Asked) → asked_at w.log k ≡ Some r → IsOpened setting w k r → answered_as answered k (as_it_stands setting w r) ≡ as_it_stands setting v r
     answered_stands k r is o = go brought refl x.reports
       where
-        expected : got_of brought ≡ got_of (arrived e setting.eid (timing_of setting e) (requests_of setting w e) bytes)
+        expected : got_of brought ≡ got_of (arrived (endpoint_of e) setting.eid (timing_of setting e) (requests_of setting w e) bytes)
         expected = looked.0
 
         none : answered ≡ None → ((n : ℕ) (m : List ℕ) → brought ≡ Answer n m → ⊥) → answered_as answered k (as_it_stands setting w r) ≡ as_it_stands setting v r
         none nothing other =
-            ap (λ a. answered_as a k (as_it_stands setting w r)) nothing ∙ sym (stays r (λ at. not_answered brought (arrived e setting.eid (timing_of setting e) (requests_of setting w e) bytes) r.own expected (other r.own)))
+            ap (λ a. answered_as a k (as_it_stands setting w r)) nothing ∙ sym (stays r (λ at. not_answered brought (arrived (endpoint_of e) setting.eid (timing_of setting e) (requests_of setting w e) bytes) r.own expected (other r.own)))
 
         go : (a : Arrival) → brought ≡ a → ReportsReply side.numbers a answered → answered_as answered k (as_it_stands setting w r) ≡ as_it_stands setting v r
         go (Drop reason) at reports = none reports (λ n m e'. let wrong : ◌≡◌ {A = Arrival} (Drop reason) (Answer n m) = sym at ∙ e' in absurd (cc))
@@ -207,7 +207,7 @@ module _ {P S : Type 0} (setting : BothEnds S) (past : List Step) (run : HeldRun
         let s = (running.sides e has).2 in
         let later_side = later_side_of e side s in
         let x : Receives setting w moment e bytes side new later_side answered = record { looks = looks; same = same; new_held = h.new_held; reports = h.reports } in
-        let looked = looks e setting.eid (timing_of setting e) setting.pace (held_of side.station) (w.calls e) moment bytes s.left in
+        let looked = looks (endpoint_of e) setting.eid (timing_of setting e) setting.pace (held_of side.station) (w.calls e) moment bytes s.left in
         called_runs setting past run journal running moment later (answer_action busy k packet) e has (requester.Receive moment bytes) new (entry.Received taken)
         (record {
           after = done_is setting w busy moment k packet ∙ ap (handed setting w moment (source_of (asked_at w.log k))) brings ∙ ap (λ o. handed setting w moment (source_of o) (Some bytes)) is;

@@ -11,7 +11,7 @@ use Rattle.mctp_schedule.specs.Entries.{as_it_stands, entries, entry_of}
 use Rattle.mctp_schedule.specs.FirstArrivals.{order}
 use Rattle.mctp_schedule.specs.HeldRuns.{HeldRun}
 use Rattle.mctp_schedule.specs.Journals.{Carried}
-use Rattle.mctp_schedule.specs.Logs.{asked_at, count_of}
+use Rattle.mctp_schedule.specs.Logs.{asked_at, count_of, endpoint_of}
 use Rattle.mctp_schedule.specs.OncePerformed.{AreRequests, RepliesFit}
 use Rattle.mctp_schedule.specs.Places.{side_at}
 use Rattle.mctp_schedule.specs.Requests.{Request}
@@ -21,8 +21,8 @@ use Rattle.schedule_text.specs.Schedules.{has_requester}
 use Rattle.mctp_schedule.specs.Worlds.{BothEnds, World, is_timely, requests_of, time_now, timing_of, with_call, world}
 use Rattle.mctp_schedule.specs.declared.entry.Entry.{Entry}
 use Rattle.mctp_schedule.specs.declared.journal.Journal.{Journal}
-use Rattle.schedule_text.specs.declared.step.Action.{Action}
-use Rattle.schedule_text.specs.declared.step.Step.{Step}
+use Rattle.mctp_schedule.specs.Actions.{Action}
+use Rattle.mctp_schedule.specs.Actions.{Step}
 use Rattle.mctp_schedule.proofs.LogsAndCalls.{call_grows}
 use Rattle.mctp_schedule.proofs.ListPlaces.{get_or, or_get, or_set_at, or_set_other}
 use Rattle.mctp_schedule.proofs.AfterReadingOrRestart.{Enters, with_responder}
@@ -102,21 +102,21 @@ module _ {P S : Type 0} (setting : BothEnds S) (past : List Step) (run : HeldRun
       where
         go : (d ≡ e) ⊎ (d ≡ e → ⊥) → (requests_of setting w d).count ≤ (requests_of setting v d).count
         go (inl same) =
-            let here = ap (λ cs. (requests d setting.eid (timing_of setting d) setting.pace cs).count) (ap (with_call w.calls e call) same ∙ call_here w.calls e call ∙ ap (λ k. call ∷ w.calls k) (sym same)) in
-            let more = (call_grows d setting.eid (timing_of setting d) setting.pace (requests_of setting w d) call).count in
+            let here = ap (λ cs. (requests (endpoint_of d) setting.eid (timing_of setting d) setting.pace cs).count) (ap (with_call w.calls e call) same ∙ call_here w.calls e call ∙ ap (λ k. call ∷ w.calls k) (sym same)) in
+            let more = (call_grows (endpoint_of d) setting.eid (timing_of setting d) setting.pace (requests_of setting w d) call).count in
             omega (arith, here, more)
-        go (inr other) = let same = ap (λ cs. (requests d setting.eid (timing_of setting d) setting.pace cs).count) (call_other w.calls e call d other) in omega (arith, same)
+        go (inr other) = let same = ap (λ cs. (requests (endpoint_of d) setting.eid (timing_of setting d) setting.pace cs).count) (call_other w.calls e call d other) in omega (arith, same)
 
-    pub new_side : IsLeftBy e setting.eid (timing_of setting e) setting.pace (held_of new.station) (call ∷ w.calls e) → new.numbers ≡ (running.sides e has).0.numbers → (requests e setting.eid (timing_of setting e) setting.pace (call ∷ w.calls e)).count ≡ (requests_of setting w e).count
+    pub new_side : IsLeftBy (endpoint_of e) setting.eid (timing_of setting e) setting.pace (held_of new.station) (call ∷ w.calls e) → new.numbers ≡ (running.sides e has).0.numbers → (requests (endpoint_of e) setting.eid (timing_of setting e) setting.pace (call ∷ w.calls e)).count ≡ (requests_of setting w e).count
         → (held_of new.station).last ≤ moment → IsSide setting v moment e new
     new_side left numbers count last =
         let s = (running.sides e has).2 in
         record {
           endpoint = s.endpoint;
           other = s.other;
-          left = subst (IsLeftBy e setting.eid (timing_of setting e) setting.pace (held_of new.station)) (sym (call_here w.calls e call)) left;
+          left = subst (IsLeftBy (endpoint_of e) setting.eid (timing_of setting e) setting.pace (held_of new.station)) (sym (call_here w.calls e call)) left;
           numbers = numbers ∙ s.numbers;
-          counted = s.counted ∙ sym (ap (λ cs. (requests e setting.eid (timing_of setting e) setting.pace cs).count) (call_here w.calls e call) ∙ count);
+          counted = s.counted ∙ sym (ap (λ cs. (requests (endpoint_of e) setting.eid (timing_of setting e) setting.pace cs).count) (call_here w.calls e call) ∙ count);
           numbered = s.numbered;
           called = last;
         }

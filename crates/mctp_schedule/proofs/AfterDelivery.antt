@@ -1,8 +1,9 @@
 -- The packet of a request comes to the device: what a run holds then.
-use Rattle.std.proofs.Common.{◌≡◌, ◌⊎◌, ℕ, ◌+◌, ◌<◌, ◌≤◌, Bool, true, false, List, [], ◌∷◌, ◌++◌, length, Option, Some, None, refl, sym, ap, subst, ◌∙◌, inl, inr, arith, eq-eqb}
+use Rattle.std.proofs.Common.{◌≡◌, ◌⊎◌, ℕ, ◌+◌, ◌<◌, ◌≤◌, Bool, true, false, List, [], ◌∷◌, ◌++◌, length, Option, Some, None, refl, sym, ap, subst, ◌∙◌, inl, inr, arith, eq-eqb, ◌≢◌}
 use Rattle.std.specs.List.{list_any}
 use Rattle.std.specs.Prelude.{not, ◌&&◌, ◌||◌, ◌==◌, nat_lt, take, option_and_then, option_map, slice_get, if◌then◌else◌}
 use Rattle.std.proofs.lemmas.Bool.{cases_eq, cond-true, cond-false, ne_eqb}
+use Rattle.mctp_packet.specs.Ids.{IsEid}
 use Rattle.pldm_wire.specs.declared.restart_policy.RestartPolicy.TheVariants.{All}
 use Rattle.mctp_packet.specs.Laws.{SpelledIsReadFor, WrittenSpells}
 use Rattle.mctp_packet.specs.Packets.{Packet}
@@ -31,7 +32,7 @@ use Rattle.mctp_schedule.specs.Deliveries.{packets_of_outcome}
 use Rattle.mctp_schedule.specs.EntryColumns.{outcomes_in, outcomes_in_entry}
 use Rattle.mctp_schedule.specs.HeldRuns.{HeldRun}
 use Rattle.mctp_schedule.specs.Journals.{Carried, answers_at, fresh_numbers, is_replied, packet_of_request, packets_in}
-use Rattle.mctp_schedule.specs.Logs.{Asked, asked_at, message_at, reached, with_reached}
+use Rattle.mctp_schedule.specs.Logs.{Asked, asked_at, message_at, reached, with_reached, endpoint_of}
 use Rattle.mctp_schedule.specs.OncePerformed.{FitsPackets}
 use Rattle.mctp_schedule.specs.Requests.{Request}
 use Rattle.mctp_schedule.specs.Running.{IsCarried, IsOpened, IsRunning, busy_packets, device_calls, received}
@@ -41,10 +42,11 @@ use Rattle.mctp_schedule.specs.declared.arrivals.Arrivals.{Arrivals}
 use Rattle.mctp_schedule.specs.declared.entry.Entry.{Entry}
 use Rattle.mctp_schedule.specs.declared.entry.Entry.TheVariants as entry
 use Rattle.mctp_schedule.specs.declared.journal.Journal.{Journal}
-use Rattle.schedule_text.specs.declared.step.Action.TheVariants as actions
-use Rattle.schedule_text.specs.declared.step.Step.{Step}
+use Rattle.mctp_schedule.specs.Actions as actions
+use Rattle.mctp_schedule.specs.Actions.{Step}
 use Rattle.pldm_responder.proofs.RecentFirst.{found_in_map}
 use Rattle.mctp_schedule.proofs.FirstPerformed.{is_first_of}
+use Rattle.mctp_schedule.proofs.RestedRequesters.{first_there}
 use Rattle.mctp_schedule.proofs.DeliveryChanges.{arrived_busy, arrived_here, arrived_none, arrived_other, brings_message, packet_for, busy_here, busy_none, busy_other, busy_served, given_busy, given_here, given_none, given_other, held_whole, looked_whole}
 use Rattle.mctp_schedule.proofs.ListPlaces.{get_last, length_pushed}
 use Rattle.mctp_schedule.proofs.AfterReadingOrRestart.{Enters, with_responder}
@@ -114,7 +116,7 @@ listed false xs n = append_none xs
 pub carried_packet : {P S : Type 0} (setting : BothEnds S) (past : List Step) (run : HeldRun P S) → IsRunning setting past run
     → (n : ℕ) (r : Asked) → asked_at (world setting past).log n ≡ Some r → (bytes : List ℕ)
     → Some bytes ≡ packet_of_request (slice_get run.journal.traffic.items n) (slice_get run.journal.requests.items n)
-    → bytes ≡ packet_bytes r.source setting.eid r.own r.message
+    → bytes ≡ packet_bytes (endpoint_of r.source) setting.eid r.own r.message
 carried_packet setting past run running n r is bytes made =
     let t = running.traffic n r is in
     let stands : slice_get run.journal.requests.items n ≡ Some (as_it_stands setting (world setting past) r) = running.requests n ∙ ap (option_map (as_it_stands setting (world setting past))) is in
@@ -170,7 +172,7 @@ module _ {P S : Type 0} (setting : BothEnds S) (past : List Step) (run : HeldRun
     calls = device_calls setting.eid w.log
 
     pub record Delivers : Type 0 where
-      pub packet_is : bytes ≡ packet_bytes r.source setting.eid r.own r.message
+      pub packet_is : bytes ≡ packet_bytes (endpoint_of r.source) setting.eid r.own r.message
       pub new_held : IsHeld (held_of new) (received_held setting.device (held_of run.responder) moment bytes)
       pub given_outcome : outcome ≡ received_outcome setting.device (held_of run.responder) moment bytes
       pub given_fits : ReceivedFits setting.device (held_of run.responder) moment bytes
@@ -189,11 +191,14 @@ module _ {P S : Type 0} (setting : BothEnds S) (past : List Step) (run : HeldRun
       source : IsOpened setting w n r
       source = running.opened n r is
 
+      first_one : endpoint_of r.source ≡ r.source
+      first_one = first_there r.source (running.sides r.source source.source).2.endpoint
+
       brings : (gives : Packet → Fed) → gives (packet_for setting.eid r) ≡ feds.Whole (record { items = r.message }) → arrival gives setting.eid moment bytes ≡ Whole m
       brings gives whole =
           let side = running.sides r.source source.source in
           ap (arrival gives setting.eid moment) d.packet_is
-          ∙ brings_message spells read_for gives setting.eid moment r source.readable.0 running.device.endpoint side.2.endpoint side.2.other source.some source.few source.readable.1 whole
+          ∙ brings_message spells read_for gives setting.eid moment r source.readable.0 running.device.endpoint (subst IsEid (sym first_one) side.2.endpoint) (subst (λ d. d ≢ setting.eid) (sym first_one) side.2.other) source.some source.few source.readable.1 whole
 
       arrives_here : responder.arrived setting.eid calls moment bytes ≡ Whole m
       arrives_here = brings (looked_back (fed setting.eid calls)) (looked_whole (fed setting.eid calls) setting.eid r)
@@ -304,6 +309,7 @@ module _ {P S : Type 0} (setting : BothEnds S) (past : List Step) (run : HeldRun
           d.given_in_time
           ∙ (λ i. nat_lt moment (r.opening + (sym running.pace i).lifetime)
           && (not (arrived_is i) || list_any (λ other. other == id_at r.message) (take (running.window i) (running.arrived r.source i))))
+          ∙ ap (λ d. nat_lt moment (r.opening + setting.pace.lifetime) && (not (has_arrived S setting.keep w.log n) || list_any (λ other. other == id_at r.message) (take setting.window (ids_arrived S setting.keep w.log d)))) (sym first_one)
 
       -- the delivery is the first arrival where it is said so
       first_is : (not arrived && not busy) ≡ is_first S setting.keep w.log moment n
@@ -312,7 +318,7 @@ module _ {P S : Type 0} (setting : BothEnds S) (past : List Step) (run : HeldRun
       ids_now : (s : ℕ) → ids_at arrivals s ≡ ids_arrived S setting.keep v.log s
       ids_now s =
           d.new_arrivals s
-          ∙ (λ i. if r.source == s && first_is i then renewed (λ id. id) (id_at r.message) (running.arrived s i) else running.arrived s i)
+          ∙ (λ i. if (sym first_one) i == s && first_is i then renewed (λ id. id) (id_at r.message) (running.arrived s i) else running.arrived s i)
           ∙ ap (λ o. with_first (is_first S setting.keep w.log moment n) o s (ids_arrived S setting.keep w.log s)) (sym is)
 
       pub delivered_runs : IsRunning setting (record { moment = moment; action = actions.Request n } ∷ past) (with_delivery run new journal arrivals)

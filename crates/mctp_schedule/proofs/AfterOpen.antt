@@ -23,7 +23,7 @@ use Rattle.mctp_schedule.specs.Entries.{as_it_stands, entries, entry_of, numbers
 use Rattle.mctp_schedule.specs.FirstArrivals.{arrives, is_answered_busy, order, first, has_arrived}
 use Rattle.mctp_schedule.specs.HeldRuns.{HeldRun}
 use Rattle.mctp_schedule.specs.Journals.{Carried}
-use Rattle.mctp_schedule.specs.Logs.{Asked, Happening, Opened, Delivered, Sensed, WentDown, asked_at, count_of, reached}
+use Rattle.mctp_schedule.specs.Logs.{Asked, Happening, Opened, Delivered, Sensed, WentDown, asked_at, count_of, reached, endpoint_of}
 use Rattle.mctp_schedule.specs.OncePerformed.{AreRequests, RepliesFit, given, was_busy}
 use Rattle.mctp_schedule.specs.Places.{side_at}
 use Rattle.mctp_schedule.specs.Requests.{Request, begun}
@@ -33,8 +33,8 @@ use Rattle.mctp_schedule.specs.Worlds.{BothEnds, World, answer_packets, asked_by
 use Rattle.mctp_schedule.specs.declared.askers.SentRequest.{SentRequest}
 use Rattle.mctp_schedule.specs.declared.entry.Entry.TheVariants as entry
 use Rattle.mctp_schedule.specs.declared.journal.Journal.{Journal}
-use Rattle.schedule_text.specs.declared.step.Action.TheVariants as actions
-use Rattle.schedule_text.specs.declared.step.Step.{Step}
+use Rattle.mctp_schedule.specs.Actions as actions
+use Rattle.mctp_schedule.specs.Actions.{Step}
 use Rattle.mctp_schedule.proofs.LoggedRequests.{asked_before, asked_below, asked_here, none_past}
 use Rattle.mctp_schedule.proofs.AfterCall.{with_side, Writes, called_runs, new_side, or_within}
 use Rattle.mctp_schedule.proofs.ListPlaces.{get_front, get_last, get_past, get_pushed, get_within, length_pushed, or_set_at, or_set_other}
@@ -86,7 +86,7 @@ module _ {P S : Type 0} (setting : BothEnds S) (past : List Step) (run : HeldRun
   w = world setting past
 
   abbrev steps : List Step
-  steps = record { moment = moment; action = actions.Open e command } ∷ past
+  steps = record { moment = moment; action = actions.Open e (ask_of command) } ∷ past
 
   abbrev call : requester.Call
   call = requester.Open moment command
@@ -109,15 +109,15 @@ module _ {P S : Type 0} (setting : BothEnds S) (past : List Step) (run : HeldRun
       let s = (running.sides e has).2 in
       let held = held_of side.station in
       let timing = timing_of setting e in
-      let looked = looks e setting.eid timing setting.pace held (w.calls e) moment (ask_of command) s.left in
+      let looked = looks (endpoint_of e) setting.eid timing setting.pace held (w.calls e) moment (ask_of command) s.left in
       let off = refused_is (held_steps.is_tag_in_use held) (held_steps.is_id_in_use held moment) held.count fault x.answer in
       let shut = sym looked.1 ∙ off in
-      let left = same e setting.eid timing setting.pace (held_of new.station) held (call ∷ w.calls e) x.new_held (looked.3 off) in
+      let left = same (endpoint_of e) setting.eid timing setting.pace (held_of new.station) held (call ∷ w.calls e) x.new_held (looked.3 off) in
       let count = ap (λ (a : Requests). a.count) (cond-false (accepts timing.keep setting.pace before moment) (opened before moment command) before shut) in
-      called_runs setting past run journal running moment later (actions.Open e command) e has call new (entry.NotOpened fault)
+      called_runs setting past run journal running moment later (actions.Open e (ask_of command)) e has call new (entry.NotOpened fault)
       (record {
-        after = ap (λ log. record { calls = with_call w.calls e call; log = log }) (cond-false (accepts timing.keep setting.pace before moment) (Opened (asked_by setting w moment e command) ∷ w.log) w.log shut);
-        is_side = new_side setting past run journal running moment later (actions.Open e command) e has call new left x.same_numbers count (let l = x.new_held.last in let y = s.called in omega (arith, l, y, later));
+        after = ap (λ log. record { calls = with_call w.calls e call; log = log }) (cond-false (accepts timing.keep setting.pace before moment) (Opened (asked_by setting w moment e (ask_of command)) ∷ w.log) w.log shut);
+        is_side = new_side setting past run journal running moment later (actions.Open e (ask_of command)) e has call new left x.same_numbers count (let l = x.new_held.last in let y = s.called in omega (arith, l, y, later));
         requests = λ k. ap (λ rs. slice_get rs k) x.requests ∙ running.requests k ∙ stand shut k (asked_at w.log k);
         counted = ap (λ (rs : List Request). length rs) x.requests;
         writes = x.writes;
@@ -129,12 +129,12 @@ module _ {P S : Type 0} (setting : BothEnds S) (past : List Step) (run : HeldRun
       stand_of shut r = ap (λ c. record { asked = r; progress = c }) (go (cases_eq r.source e))
         where
           go : (r.source ≡ e) ⊎ (r.source ≡ e → ⊥) → (as_it_stands setting (world setting past) r).progress ≡ (as_it_stands setting (record { calls = with_call (world setting past).calls e (requester.Open moment command); log = (world setting past).log }) r).progress
-          go (inr other) = sym (ap (λ cs. ((requests r.source setting.eid (timing_of setting r.source) setting.pace cs).each r.own).course.progress) (call_other (world setting past).calls e (requester.Open moment command) r.source other))
+          go (inr other) = sym (ap (λ cs. ((requests (endpoint_of r.source) setting.eid (timing_of setting r.source) setting.pace cs).each r.own).course.progress) (call_other (world setting past).calls e (requester.Open moment command) r.source other))
           go (inl at) =
               ap (λ d. ((requests_of setting (world setting past) d).each r.own).course.progress) at
               ∙ sym (
-              ap (λ d. ((requests d setting.eid (timing_of setting d) setting.pace (with_call (world setting past).calls e (requester.Open moment command) d)).each r.own).course.progress) at
-              ∙ ap (λ cs. ((requests e setting.eid (timing_of setting e) setting.pace cs).each r.own).course.progress) (call_here (world setting past).calls e (requester.Open moment command))
+              ap (λ d. ((requests (endpoint_of d) setting.eid (timing_of setting d) setting.pace (with_call (world setting past).calls e (requester.Open moment command) d)).each r.own).course.progress) at
+              ∙ ap (λ cs. ((requests (endpoint_of e) setting.eid (timing_of setting e) setting.pace cs).each r.own).course.progress) (call_here (world setting past).calls e (requester.Open moment command))
               ∙ ap (λ (a : Requests). (a.each r.own).course.progress) (cond-false (accepts (timing_of setting e).keep setting.pace (requests_of setting (world setting past) e) moment) _ _ shut))
 
       stand : accepts (timing_of setting e).keep setting.pace (requests_of setting (world setting past) e) moment ≡ false → (k : ℕ) (o : Option Asked) → option_map (as_it_stands setting (world setting past)) o ≡ option_map (as_it_stands setting (record { calls = with_call (world setting past).calls e (requester.Open moment command); log = (world setting past).log })) o
@@ -143,10 +143,10 @@ module _ {P S : Type 0} (setting : BothEnds S) (past : List Step) (run : HeldRun
 
   -- ---- accepted
   abbrev q : Asked
-  q = asked_by setting w moment e command
+  q = asked_by setting w moment e (ask_of command)
 
   abbrev v : World
-  v = record { calls = with_call w.calls e (requester.Open moment command); log = Opened (asked_by setting w moment e command) ∷ w.log }
+  v = record { calls = with_call w.calls e (requester.Open moment command); log = Opened (asked_by setting w moment e (ask_of command)) ∷ w.log }
 
   pub record Opens (sent : SentRequest) : Type 0 where
     pub is_sent : IsSent (held_of (running.sides e has).0.station) moment command sent
@@ -178,16 +178,16 @@ module _ {P S : Type 0} (setting : BothEnds S) (past : List Step) (run : HeldRun
     on = accepted_is (held_steps.is_tag_in_use (held_of side.station)) (held_steps.is_id_in_use (held_of side.station) moment) (held_of side.station).count (opened_as (held_of side.station).count) x.is_sent.opened
 
     looked_accepts : accepts timing.keep setting.pace before moment ≡ true
-    looked_accepts = sym (looks e setting.eid timing setting.pace (held_of side.station) (w.calls e) moment (ask_of command) s.left).1 ∙ on
+    looked_accepts = sym (looks (endpoint_of e) setting.eid timing setting.pace (held_of side.station) (w.calls e) moment (ask_of command) s.left).1 ∙ on
 
     after : world setting steps ≡ v
-    after = ap (λ log. record { calls = with_call w.calls e call; log = log }) (cond-true (accepts timing.keep setting.pace before moment) (Opened (asked_by setting w moment e command) ∷ w.log) w.log looked_accepts)
+    after = ap (λ log. record { calls = with_call w.calls e call; log = log }) (cond-true (accepts timing.keep setting.pace before moment) (Opened (asked_by setting w moment e (ask_of command)) ∷ w.log) w.log looked_accepts)
 
-    new_before : requests e setting.eid timing setting.pace (call ∷ w.calls e) ≡ opened before moment command
+    new_before : requests (endpoint_of e) setting.eid timing setting.pace (call ∷ w.calls e) ≡ opened before moment command
     new_before = cond-true (accepts timing.keep setting.pace before moment) (opened before moment command) before looked_accepts
 
     here : requests_of setting v e ≡ opened before moment command
-    here = ap (requests e setting.eid timing setting.pace) (call_here w.calls e call) ∙ new_before
+    here = ap (requests (endpoint_of e) setting.eid timing setting.pace) (call_here w.calls e call) ∙ new_before
 
     own_is : sent.own ≡ before.count
     own_is = x.is_sent.own ∙ s.left.count
@@ -216,8 +216,8 @@ module _ {P S : Type 0} (setting : BothEnds S) (past : List Step) (run : HeldRun
     is_side = record {
       endpoint = s.endpoint;
       other = s.other;
-      left = subst (IsLeftBy e setting.eid timing setting.pace (held_of new.station)) (sym (call_here w.calls e call))
-          (same e setting.eid timing setting.pace (held_of new.station) (opened_held (held_of side.station) moment command) (call ∷ w.calls e) x.new_held ((looks e setting.eid timing setting.pace (held_of side.station) (w.calls e) moment (ask_of command) s.left).2 on));
+      left = subst (IsLeftBy (endpoint_of e) setting.eid timing setting.pace (held_of new.station)) (sym (call_here w.calls e call))
+          (same (endpoint_of e) setting.eid timing setting.pace (held_of new.station) (opened_held (held_of side.station) moment command) (call ∷ w.calls e) x.new_held ((looks (endpoint_of e) setting.eid timing setting.pace (held_of side.station) (w.calls e) moment (ask_of command) s.left).2 on));
       numbers = x.more_numbers ∙ ap (λ xs. xs ++ length run.journal.requests.items ∷ []) s.numbers ∙ ap (λ n. numbers_of w.log e ++ n ∷ []) running.counted ∙ sym numbers_here;
       counted = ap (λ (xs : List ℕ). length xs) numbers_here ∙ length_pushed (numbers_of w.log e) count ∙ ap suc s.counted ∙ sym (ap (λ (a : Requests). a.count) here);
       numbered = λ own k at. numbered_at own k (get_pushed (numbers_of w.log e) count own k (sym (ap (λ xs. slice_get xs own) numbers_here) ∙ at));
@@ -250,7 +250,7 @@ module _ {P S : Type 0} (setting : BothEnds S) (past : List Step) (run : HeldRun
             let b = ap (λ d. (requests_of setting v d).count) at in
             let c = ap (λ (y : Requests). y.count) here in
             omega (arith, a, b, c)
-        grows (inr other) = let c = ap (λ cs. (requests r.source setting.eid (timing_of setting r.source) setting.pace cs).count) (call_other w.calls e call r.source other) in omega (arith, c)
+        grows (inr other) = let c = ap (λ cs. (requests (endpoint_of r.source) setting.eid (timing_of setting r.source) setting.pace cs).count) (call_other w.calls e call r.source other) in omega (arith, c)
 
         stays : (r.source ≡ e) ⊎ (r.source ≡ e → ⊥) → slice_get (numbers_of w.log r.source) r.own ≡ Some k → slice_get (numbers_of v.log r.source) r.own ≡ Some k
         stays (inl at) number =
@@ -263,7 +263,7 @@ module _ {P S : Type 0} (setting : BothEnds S) (past : List Step) (run : HeldRun
     stands k r is = ap (λ c. record { asked = r; progress = c }) (go (cases_eq r.source e))
       where
         go : (r.source ≡ e) ⊎ (r.source ≡ e → ⊥) → (as_it_stands setting w r).progress ≡ (as_it_stands setting v r).progress
-        go (inr other) = sym (ap (λ cs. ((requests r.source setting.eid (timing_of setting r.source) setting.pace cs).each r.own).course.progress) (call_other w.calls e call r.source other))
+        go (inr other) = sym (ap (λ cs. ((requests (endpoint_of r.source) setting.eid (timing_of setting r.source) setting.pace cs).each r.own).course.progress) (call_other w.calls e call r.source other))
         go (inl at) =
             let low = subst (λ d. r.own < (requests_of setting w d).count) at (running.opened k r is).within in
             ap (λ d. ((requests_of setting w d).each r.own).course.progress) at
@@ -309,8 +309,8 @@ module _ {P S : Type 0} (setting : BothEnds S) (past : List Step) (run : HeldRun
     carried_is : IsCarried setting v journal.entries count q carried_new
     carried_is = record {
       packet = ap (λ m. sent.header ++ m) (sym message_is) ∙ x.is_sent.packet ∙ ap (λ own. packet_bytes own (held_of side.station).device (held_of side.station).count (message_of (held_of side.station).count command)) s.left.endpoint
-          ∙ ap (λ peer. packet_bytes e peer (held_of side.station).count (message_of (held_of side.station).count command)) s.left.peer
-          ∙ ap (λ n. packet_bytes e setting.eid n (message_of n command)) s.left.count;
+          ∙ ap (λ peer. packet_bytes (endpoint_of e) peer (held_of side.station).count (message_of (held_of side.station).count command)) s.left.peer
+          ∙ ap (λ n. packet_bytes (endpoint_of e) setting.eid n (message_of n command)) s.left.count;
       reply = sym (ap (option_map (answer_packets setting.eid q)) (none_given setting.device setting.window setting.keep setting.start w.log count (omega arith)));
       busy = sym (ap (busy_packets setting.eid q) (never_busy S setting.keep w.log count (omega arith)));
       arrived = sym (never_arrived S setting.keep w.log count (omega arith));
@@ -352,10 +352,10 @@ module _ {P S : Type 0} (setting : BothEnds S) (past : List Step) (run : HeldRun
               still_side setting w v (time_now past) moment d y.0 (call_other w.calls e call d other) (numbers_other d other) asked_stays later y.2,
             )
 
-    entry_now : entry.Opened (length run.journal.requests.items) ≡ entry_of setting w moment (actions.Open e command)
+    entry_now : entry.Opened (length run.journal.requests.items) ≡ entry_of setting w moment (actions.Open e (ask_of command))
     entry_now =
         ap entry.Opened running.counted
-        ∙ ap (open_entry count) (sym x.is_sent.opened ∙ (looks e setting.eid timing setting.pace (held_of side.station) (w.calls e) moment (ask_of command) s.left).0)
+        ∙ ap (open_entry count) (sym x.is_sent.opened ∙ (looks (endpoint_of e) setting.eid timing setting.pace (held_of side.station) (w.calls e) moment (ask_of command) s.left).0)
 
     pub opened_runs : IsRunning setting steps (with_side run e new journal)
     opened_runs =

@@ -15,8 +15,8 @@ use Rattle.mctp_schedule.specs.Running.{IsCarried, IsRunning, device_calls}
 use Rattle.mctp_schedule.specs.Worlds.{BothEnds, World, time_now, world}
 use Rattle.mctp_schedule.specs.declared.entry.Entry.{Entry}
 use Rattle.mctp_schedule.specs.declared.journal.Journal.{Journal}
-use Rattle.schedule_text.specs.declared.step.Action.TheVariants as actions
-use Rattle.schedule_text.specs.declared.step.Step.{Step}
+use Rattle.mctp_schedule.specs.Actions as actions
+use Rattle.mctp_schedule.specs.Actions.{Step}
 use Rattle.mctp_schedule.proofs.KeptByAStep.{still_carried, still_opened, still_side}
 
 -- what is held when the responder and what is written down have changed

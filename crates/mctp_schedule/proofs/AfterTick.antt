@@ -16,14 +16,14 @@ use Rattle.mctp_schedule.specs.Askers.{Side}
 use Rattle.mctp_schedule.specs.Entries.{as_it_stands, numbered, numbers_of}
 use Rattle.mctp_schedule.specs.HeldRuns.{HeldRun}
 use Rattle.mctp_schedule.specs.Journals.{progress_after}
-use Rattle.mctp_schedule.specs.Logs.{Asked, asked_at}
+use Rattle.mctp_schedule.specs.Logs.{Asked, asked_at, endpoint_of}
 use Rattle.mctp_schedule.specs.Running.{IsOpened, IsRunning}
 use Rattle.schedule_text.specs.Schedules.{has_requester}
 use Rattle.mctp_schedule.specs.Worlds.{BothEnds, World, requests_of, time_now, timing_of, with_call, world}
 use Rattle.mctp_schedule.specs.declared.entry.Entry.TheVariants as entry
 use Rattle.mctp_schedule.specs.declared.journal.Journal.{Journal}
-use Rattle.schedule_text.specs.declared.step.Action.TheVariants as actions
-use Rattle.schedule_text.specs.declared.step.Step.{Step}
+use Rattle.mctp_schedule.specs.Actions as actions
+use Rattle.mctp_schedule.specs.Actions.{Step}
 use Rattle.mctp_schedule.proofs.AfterCall.{with_side, Writes, called_runs, new_side}
 use Rattle.mctp_schedule.proofs.NumberedRequests.{among_none, among_one, get_index, index_get}
 use Rattle.mctp_schedule.proofs.KeptByAStep.{call_here, call_other}
@@ -59,24 +59,24 @@ module _ {S : Type 0} (setting : BothEnds S) (w : World) (moment e : ℕ) where
       let same = one_asked (asked_at w.log k) q.0 r q.1 is in
       (sym (ap (λ (a : Asked). a.source) same) ∙ q.2, sym q.3 ∙ ap (λ (a : Asked). a.own) same)
 
-  stood : (k : ℕ) (r : Asked) (b : Bool) → list_any (λ n. n == k) (numbered (numbers_of w.log e) (given_up_expected e setting.eid (timing_of setting e) setting.pace (w.calls e) moment)) ≡ b
+  stood : (k : ℕ) (r : Asked) (b : Bool) → list_any (λ n. n == k) (numbered (numbers_of w.log e) (given_up_expected (endpoint_of e) setting.eid (timing_of setting e) setting.pace (w.calls e) moment)) ≡ b
       → (as_it_stands setting v r).progress ≡ (if b then courses.GaveUp else (as_it_stands setting w r).progress)
-      → progress_after (numbered (numbers_of w.log e) (given_up_expected e setting.eid (timing_of setting e) setting.pace (w.calls e) moment)) k (as_it_stands setting w r) ≡ as_it_stands setting v r
+      → progress_after (numbered (numbers_of w.log e) (given_up_expected (endpoint_of e) setting.eid (timing_of setting e) setting.pace (w.calls e) moment)) k (as_it_stands setting w r) ≡ as_it_stands setting v r
   stood k r true listed progress = cond-true _ _ _ listed ∙ ap (λ s. record { asked = r; progress = s }) (sym progress)
   stood k r false listed progress = cond-false _ _ _ listed ∙ ap (λ s. record { asked = r; progress = s }) (sym progress)
 
   pub ticked_stands : Numbered → (k : ℕ) (r : Asked) → asked_at w.log k ≡ Some r → IsOpened setting w k r
-      → progress_after (numbered (numbers_of w.log e) (given_up_expected e setting.eid (timing_of setting e) setting.pace (w.calls e) moment)) k (as_it_stands setting w r) ≡ as_it_stands setting v r
+      → progress_after (numbered (numbers_of w.log e) (given_up_expected (endpoint_of e) setting.eid (timing_of setting e) setting.pace (w.calls e) moment)) k (as_it_stands setting w r) ≡ as_it_stands setting v r
   ticked_stands z k r is o = go (cases_eq r.source e)
     where
       test : ℕ → Bool
       test n = is_given_up (timing_of setting e) moment ((requests_of setting w e).each n).course
 
-      go : (r.source ≡ e) ⊎ (r.source ≡ e → ⊥) → progress_after (numbered (numbers_of w.log e) (given_up_expected e setting.eid (timing_of setting e) setting.pace (w.calls e) moment)) k (as_it_stands setting w r) ≡ as_it_stands setting v r
+      go : (r.source ≡ e) ⊎ (r.source ≡ e → ⊥) → progress_after (numbered (numbers_of w.log e) (given_up_expected (endpoint_of e) setting.eid (timing_of setting e) setting.pace (w.calls e) moment)) k (as_it_stands setting w r) ≡ as_it_stands setting v r
       go (inr other) =
           stood k r false
           (among_none (slice_index (numbers_of w.log e)) (λ n. is_given_up (timing_of setting e) moment ((requests_of setting w e).each n).course) k 0 (requests_of setting w e).count (λ i low high at. other (unique z k r is i (omega arith) at).0))
-          (ap (λ cs. ((requests r.source setting.eid (timing_of setting r.source) setting.pace cs).each r.own).course.progress) (call_other w.calls e (requester.Tick moment) r.source other))
+          (ap (λ cs. ((requests (endpoint_of r.source) setting.eid (timing_of setting r.source) setting.pace cs).each r.own).course.progress) (call_other w.calls e (requester.Tick moment) r.source other))
       go (inl same) =
           let within = subst (λ d. r.own < (requests_of setting w d).count) same o.within in
           let number = subst (λ d. slice_get (numbers_of w.log d) r.own ≡ Some k) same o.number in
@@ -85,7 +85,7 @@ module _ {S : Type 0} (setting : BothEnds S) (w : World) (moment e : ℕ) where
           stood k r (is_given_up (timing_of setting e) moment ((requests_of setting w e).each r.own).course)
           (among_one (slice_index (numbers_of w.log e)) (λ n. is_given_up (timing_of setting e) moment ((requests_of setting w e).each n).course) k r.own 0 (requests_of setting w e).count (omega arith) (omega (arith, within)) (index_get (numbers_of w.log e) r.own k number)
           (λ i low high at. (unique z k r is i (omega arith) at).1))
-          (ap (λ cs. ((requests r.source setting.eid (timing_of setting r.source) setting.pace cs).each r.own).course.progress) here
+          (ap (λ cs. ((requests (endpoint_of r.source) setting.eid (timing_of setting r.source) setting.pace cs).each r.own).course.progress) here
           ∙ ticked_progress (timing_of setting r.source) moment ((requests_of setting w r.source).each r.own).course
           ∙ ap (λ d. if is_given_up (timing_of setting d) moment ((requests_of setting w d).each r.own).course then courses.GaveUp else (as_it_stands setting w r).progress) same)
 
@@ -111,8 +111,8 @@ module _ {P S : Type 0} (setting : BothEnds S) (past : List Step) (run : HeldRun
       let side = (running.sides e has).0 in
       let s = (running.sides e has).2 in
       let timing = timing_of setting e in
-      let looked = looks e setting.eid timing setting.pace (held_of side.station) (w.calls e) moment s.left in
-      let left = same e setting.eid timing setting.pace (held_of new.station) (ticked_held (held_of side.station) moment) (requester.Tick moment ∷ w.calls e) t.held looked.2 in
+      let looked = looks (endpoint_of e) setting.eid timing setting.pace (held_of side.station) (w.calls e) moment s.left in
+      let left = same (endpoint_of e) setting.eid timing setting.pace (held_of new.station) (ticked_held (held_of side.station) moment) (requester.Tick moment ∷ w.calls e) t.held looked.2 in
       let again = t.again ∙ ap (λ xs. numbered xs (again_at (held_of side.station) moment)) s.numbers ∙ ap (numbered (numbers_of w.log e)) looked.0 in
       let given_up = t.given_up ∙ ap (λ xs. numbered xs (given_up_at (held_of side.station) moment)) s.numbers ∙ ap (numbered (numbers_of w.log e)) looked.1 in
       called_runs setting past run journal running moment later (actions.Tick e) e has (requester.Tick moment) new (entry.Due due)
@@ -126,7 +126,7 @@ module _ {P S : Type 0} (setting : BothEnds S) (past : List Step) (run : HeldRun
         timely = t.timely ∙ running.timely;
       })
     where
-      stand : (k : ℕ) → due.given_up.items ≡ numbered (numbers_of (world setting past).log e) (given_up_expected e setting.eid (timing_of setting e) setting.pace ((world setting past).calls e) moment) → (o : Option Asked) → asked_at (world setting past).log k ≡ o
+      stand : (k : ℕ) → due.given_up.items ≡ numbered (numbers_of (world setting past).log e) (given_up_expected (endpoint_of e) setting.eid (timing_of setting e) setting.pace ((world setting past).calls e) moment) → (o : Option Asked) → asked_at (world setting past).log k ≡ o
           → option_map (progress_after due.given_up.items k) (option_map (as_it_stands setting (world setting past)) o) ≡ option_map (as_it_stands setting (record { calls = with_call (world setting past).calls e (requester.Tick moment); log = (world setting past).log })) o
       stand k given_up None is = refl
       stand k given_up (Some r) is =

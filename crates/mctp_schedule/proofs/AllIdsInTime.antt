@@ -8,7 +8,7 @@ use Rattle.pldm_wire.specs.declared.assigned.TheConstants.{INSTANCE_IDS}
 use Rattle.pldm_responder.specs.Events.{is_busy}
 use Rattle.mctp_schedule.specs.FirstArrivals.{arrives, earlier, first, has_arrived, is_first}
 use Rattle.mctp_schedule.specs.EachId as each_id
-use Rattle.mctp_schedule.specs.Logs.{Asked, Happening, Opened, Delivered, Sensed, WentDown, asked_at, reached}
+use Rattle.mctp_schedule.specs.Logs.{Asked, Happening, Opened, Delivered, Sensed, WentDown, asked_at, reached, endpoint_of}
 use Rattle.mctp_schedule.proofs.FirstPerformed.{first_below, is_first_of, request_older}
 use Rattle.mctp_schedule.proofs.ApartByTime.{apart_by_time, apart_in_time}
 use Rattle.mctp_schedule.proofs.IdsArrived.{any_is_found, ids_apart}
@@ -32,12 +32,12 @@ stays_in n m ids is = ⊎_elim
 still_in : (n : ℕ) (is_the_first : Bool) (o : Option Asked) (source : ℕ) (ids : List ℕ) → In n ids → In n (with_first is_the_first o source ids)
 still_in n is_the_first None source ids is = is
 still_in n is_the_first (Some r) source ids is =
-    cond_both (r.source == source && is_the_first) (renewed (λ i. i) (id_at r.message) ids) ids (In n)
+    cond_both (endpoint_of r.source == source && is_the_first) (renewed (λ i. i) (id_at r.message) ids) ids (In n)
     (λ _. stays_in n (id_at r.message) ids is) (λ _. is)
 
-comes_in : (r : Asked) (ids : List ℕ) → In (id_at r.message) (with_first true (Some r) r.source ids)
+comes_in : (r : Asked) (ids : List ℕ) → In (id_at r.message) (with_first true (Some r) (endpoint_of r.source) ids)
 comes_in r ids =
-    ap (λ l. is_some (of_number (λ i. i) (id_at r.message) l)) (cond-true (r.source == r.source && true) (renewed (λ i. i) (id_at r.message) ids) ids (and_from (r.source == r.source) true (eq-eqb r.source r.source refl) refl))
+    ap (λ l. is_some (of_number (λ i. i) (id_at r.message) l)) (cond-true (endpoint_of r.source == endpoint_of r.source && true) (renewed (λ i. i) (id_at r.message) ids) ids (and_from (endpoint_of r.source == endpoint_of r.source) true (eq-eqb (endpoint_of r.source) (endpoint_of r.source) refl) refl))
     ∙ ap is_some (renewed_finds (λ i. i) (id_at r.message) ids)
 
 module _ (S : Type 0) (keep : ℕ) where
@@ -51,17 +51,17 @@ module _ (S : Type 0) (keep : ℕ) where
       go : (o : Option Asked) → Below (λ i. i) INSTANCE_IDS (ids_arrived S keep past source) → Below (λ i. i) INSTANCE_IDS (with_first (is_first S keep past t k) o source (ids_arrived S keep past source))
       go None before = before
       go (Some r) before =
-          cond_both (r.source == source && is_first S keep past t k) _ (ids_arrived S keep past source) (Below (λ i. i) INSTANCE_IDS)
+          cond_both (endpoint_of r.source == source && is_first S keep past t k) _ (ids_arrived S keep past source) (Below (λ i. i) INSTANCE_IDS)
           (λ _. renewed_below (λ i. i) INSTANCE_IDS (id_at r.message) (ids_arrived S keep past source) (id_is_small r.message) before) (λ _. before)
 
   -- the instance ID of a request that has arrived is among those that have
-  pub arrived_in : (log : List Happening) (k : ℕ) (r : Asked) → asked_at log k ≡ Some r → has_arrived S keep log k ≡ true → In (id_at r.message) (ids_arrived S keep log r.source)
+  pub arrived_in : (log : List Happening) (k : ℕ) (r : Asked) → asked_at log k ≡ Some r → has_arrived S keep log k ≡ true → In (id_at r.message) (ids_arrived S keep log (endpoint_of r.source))
   arrived_in [] k r e came = absurd (cc)
   arrived_in (Sensed _ _ _ ∷ past) k r e came = arrived_in past k r e came
   arrived_in (WentDown _ ∷ past) k r e came = arrived_in past k r e came
   arrived_in (Opened q ∷ past) k r e came = go (first S keep past k) refl (λ x. arrived_in past k r x came)
     where
-      go : (f : Option (List Happening)) → first S keep past k ≡ f → (asked_at past k ≡ Some r → In (id_at r.message) (ids_arrived S keep past r.source)) → In (id_at r.message) (ids_arrived S keep past r.source)
+      go : (f : Option (List Happening)) → first S keep past k ≡ f → (asked_at past k ≡ Some r → In (id_at r.message) (ids_arrived S keep past (endpoint_of r.source))) → In (id_at r.message) (ids_arrived S keep past (endpoint_of r.source))
       go None is ih = absurd (let wrong : false ≡ true = ap is_some (sym is) ∙ came in cc)
       go (Some place) is ih = ih (sym (request_older q past k (first_below S keep past k place is)) ∙ e)
   arrived_in (Delivered t j ∷ past) k r e came = go (first S keep past k) refl (λ x. arrived_in past k r e x)
@@ -72,27 +72,27 @@ module _ (S : Type 0) (keep : ℕ) where
       test : Bool
       test = j == k && arrives (asked_at past k) busy
 
-      here : first S keep past k ≡ None → test ≡ true → In (id_at r.message) (with_first (is_first S keep past t j) (asked_at past j) r.source (ids_arrived S keep past r.source))
+      here : first S keep past k ≡ None → test ≡ true → In (id_at r.message) (with_first (is_first S keep past t j) (asked_at past j) (endpoint_of r.source) (ids_arrived S keep past (endpoint_of r.source)))
       here none on =
           let parts = and_parts (j == k) (arrives (asked_at past k) busy) on in
           let it : is_first S keep past t k ≡ true = ap (λ f. is_first_of (asked_at past k) f busy) none ∙ parts.1 in
-          subst (λ n. In (id_at r.message) (with_first (is_first S keep past t n) (asked_at past n) r.source (ids_arrived S keep past r.source))) (sym (eqb-true j k parts.0))
-          (subst (λ b. In (id_at r.message) (with_first b (asked_at past k) r.source (ids_arrived S keep past r.source))) (sym it)
-          (subst (λ o. In (id_at r.message) (with_first true o r.source (ids_arrived S keep past r.source))) (sym e) (comes_in r (ids_arrived S keep past r.source))))
+          subst (λ n. In (id_at r.message) (with_first (is_first S keep past t n) (asked_at past n) (endpoint_of r.source) (ids_arrived S keep past (endpoint_of r.source)))) (sym (eqb-true j k parts.0))
+          (subst (λ b. In (id_at r.message) (with_first b (asked_at past k) (endpoint_of r.source) (ids_arrived S keep past (endpoint_of r.source)))) (sym it)
+          (subst (λ o. In (id_at r.message) (with_first true o (endpoint_of r.source) (ids_arrived S keep past (endpoint_of r.source)))) (sym e) (comes_in r (ids_arrived S keep past (endpoint_of r.source)))))
 
       on_from : (b : Bool) → is_some (earlier None b past) ≡ true → b ≡ true
       on_from true _ = refl
       on_from false f = absurd (cc)
 
-      go : (f : Option (List Happening)) → first S keep past k ≡ f → (is_some (first S keep past k) ≡ true → In (id_at r.message) (ids_arrived S keep past r.source)) → In (id_at r.message) (with_first (is_first S keep past t j) (asked_at past j) r.source (ids_arrived S keep past r.source))
+      go : (f : Option (List Happening)) → first S keep past k ≡ f → (is_some (first S keep past k) ≡ true → In (id_at r.message) (ids_arrived S keep past (endpoint_of r.source))) → In (id_at r.message) (with_first (is_first S keep past t j) (asked_at past j) (endpoint_of r.source) (ids_arrived S keep past (endpoint_of r.source)))
       go None is ih = here is (on_from test (sym (ap (λ f. is_some (earlier f test past)) is) ∙ came))
-      go (Some place) is ih = still_in (id_at r.message) (is_first S keep past t j) (asked_at past j) r.source (ids_arrived S keep past r.source) (ih (ap is_some is))
+      go (Some place) is ih = still_in (id_at r.message) (is_first S keep past t j) (asked_at past j) (endpoint_of r.source) (ids_arrived S keep past (endpoint_of r.source)) (ih (ap is_some is))
 
   module _ (window : ℕ) (wide : INSTANCE_IDS ≤ window) where
     pub always_in_window : (past : List Happening) (k : ℕ) (r : Asked) → asked_at past k ≡ Some r → has_arrived S keep past k ≡ true → is_in_window S window keep past r ≡ true
     always_in_window past k r e came =
-        let ids = ids_arrived S keep past r.source in
-        let few = no_more (λ i. i) INSTANCE_IDS ids (ids_apart S keep past r.source) (ids_below past r.source) in
+        let ids = ids_arrived S keep past (endpoint_of r.source) in
+        let few = no_more (λ i. i) INSTANCE_IDS ids (ids_apart S keep past (endpoint_of r.source)) (ids_below past (endpoint_of r.source)) in
         ap (list_any (λ i. i == id_at r.message)) (take_all window ids (omega (arith, few, wide)))
         ∙ any_is_found (λ i. i == id_at r.message) ids
         ∙ arrived_in past k r e came

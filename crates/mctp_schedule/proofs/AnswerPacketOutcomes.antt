@@ -1,6 +1,6 @@
 -- What the packets of answers are, and what each brings its request: the answer where it completes it, else what
 -- assembly gives.
-use Rattle.std.proofs.Common.{◌≡◌, ◌⊎◌, ℕ, ◌+◌, ◌<◌, ◌≤◌, List, ◌∷◌, slice_get, Option, Some, None, Bool, true, false, Ok, refl, sym, ap, ◌∙◌, subst, inl, inr, arith}
+use Rattle.std.proofs.Common.{◌≡◌, ◌⊎◌, ℕ, ◌+◌, ◌<◌, ◌≤◌, List, [], ◌∷◌, slice_get, Option, Some, None, Bool, true, false, Ok, refl, sym, ap, ◌∙◌, subst, inl, inr, arith}
 use Rattle.std.specs.Prelude.{◌&&◌, ◌==◌, nat_lt, if◌then◌else◌}
 use Rattle.std.proofs.lemmas.Bool.{and_left, and_right, and_from, cases_Bool, lt-ltb, cond-true, cond-false}
 use Rattle.mctp_packet.specs.Laws.{IsRoute, SplitsReadBack}
@@ -12,27 +12,24 @@ use Rattle.mctp_packet.specs.declared.TheConstants.{MAX_PACKETS}
 use Rattle.mctp_assembly.specs.Rows.{next}
 use Rattle.mctp_assembly.specs.declared.fed.Fed.{Fed}
 use Rattle.mctp_assembly.specs.declared.fed.Fed.TheVariants.{Whole, Partial, Dropped}
-use Rattle.pldm_wire.specs.Answers.{answer_message}
-use Rattle.pldm_wire.specs.Commands.{kind_of}
 use Rattle.pldm_wire.specs.Laws.{RequestReadBack, ResponseReadBack}
+use Rattle.pldm_wire.specs.Messages.{response_message}
 use Rattle.pldm_wire.specs.Responses.{Response, response_of}
-use Rattle.pldm_wire.specs.declared.answer.Answer.TheVariants.{Refused}
 use Rattle.pldm_wire.specs.declared.assigned.TheConstants.{ERROR_NOT_READY}
-use Rattle.pldm_wire.specs.declared.command.Command.{Command}
 use Rattle.pldm_responder.specs.Performing.{busy_reply, reply}
 use Rattle.pldm_requester.specs.Arrivals.{Arrival, Drop, Part, Answer, fed_arrival, is_response_to, response_arrival}
 use Rattle.pldm_requester.specs.Asks.{Ask}
 use Rattle.pldm_requester.specs.Calls.{is_mine}
 use Rattle.pldm_requester.specs.Laws.{FoundOnItsTag, IdsApart}
 use Rattle.pldm_requester.specs.Numbering.{id_of}
-use Rattle.mctp_schedule.specs.Logs.{Asked, Happening, asked_at}
+use Rattle.mctp_schedule.specs.Logs.{Asked, Happening, asked_at, endpoint_of}
 use Rattle.mctp_schedule.specs.Timely.{IsTimelyLog}
 use Rattle.mctp_schedule.specs.FirstArrivals.{first}
 use Rattle.mctp_schedule.specs.OncePerformed.{FitsPackets, bytes_of, given_once, once, reply_from, was_busy}
 use Rattle.mctp_schedule.specs.RequesterHalf.{IsSound}
 use Rattle.mctp_schedule.specs.TakenReplies.{brought, came, completes, completes_for, is_ready, is_waiting, part_count, replies, reply_of, row, way_to}
 use Rattle.mctp_schedule.specs.Worlds.{BothEnds, World, answer_packets, busy_from, busy_packet, packet_of, reply_packet, requests_of, timing_of, world}
-use Rattle.schedule_text.specs.declared.step.Step.{Step}
+use Rattle.mctp_schedule.specs.Actions.{Step}
 use Rattle.mctp_schedule.proofs.RepliesAreTaken.{AnswersRequest, answer_arrives, busy_refuses, reply_answers, whole_arrival}
 use Rattle.mctp_schedule.proofs.DeliveriesExpected.{given_is_the_reply, the_reply_fits}
 use Rattle.mctp_schedule.proofs.AnswerPacketsAtRequester.{IsOf, packet_past}
@@ -63,16 +60,16 @@ module _ {S : Type 0} (setting : BothEnds S) (lower : Lower) (past : List Step) 
   m = reply_of setting w k
 
   known : Known setting w r
-  known = (all_known setting past).known k r is
+  known = (all_known setting past sound.asks).known k r is
 
-  abbrev command : Command
-  command = known.command
+  abbrev ask : Ask
+  ask = known.ask
 
   -- ---- the packets
   is_route : IsRoute (way_to setting r)
   is_route = ((sound.sources k r is).0, sound.device, omega arith)
 
-  pub reads_back : (message : List ℕ) (j : ℕ) (bytes : List ℕ) → slice_get (answer_packets setting.eid r message) j ≡ Some bytes → reading (Some r.source) bytes ≡ Ok (packet_at (way_to setting r) message j)
+  pub reads_back : (message : List ℕ) (j : ℕ) (bytes : List ℕ) → slice_get (answer_packets setting.eid r message) j ≡ Some bytes → reading (Some (endpoint_of r.source)) bytes ≡ Ok (packet_at (way_to setting r) message j)
   reads_back message j bytes at = (lower.splits (way_to setting r) message j bytes is_route at).1 (sound.sources k r is).1
 
   pub packet_is : (j : ℕ) → reply_packet setting w k j ≡ slice_get (answer_packets setting.eid r m) j
@@ -101,19 +98,19 @@ module _ {S : Type 0} (setting : BothEnds S) (lower : Lower) (past : List Step) 
   pub performed_at : (place : List Happening) → first S setting.keep w.log k ≡ Some place → m ≡ reply setting.device (once setting.device setting.keep setting.start place) r.message
   performed_at place e i = reply_from setting.device setting.keep setting.start (bytes_of (is i)) (e i)
 
-  answers : (j : ℕ) → j < part_count setting w k → AnswersRequest r.own command m
+  answers : (j : ℕ) → j < part_count setting w k → AnswersRequest r.own ask m
   answers j l =
       let came_in = has_arrived j l in
       let state = once setting.device setting.keep setting.start came_in.0 in
       let own : m ≡ reply setting.device state _ = performed_at came_in.0 came_in.1 ∙ ap (reply setting.device state) known.message in
-      subst (AnswersRequest r.own command) (sym own) (reply_answers lower.requests setting.device sound.reads state r.own command)
+      subst (AnswersRequest r.own ask) (sym own) (reply_answers lower.requests setting.device state r.own ask known.kind)
 
   fits : (j : ℕ) → j < part_count setting w k → FitsPackets m
   fits j l = let came_in = has_arrived j l in the_reply_fits setting.device setting.window setting.keep setting.pace.lifetime setting.start w.log k came_in.0 timely sound.fit came_in.1
 
   -- ---- the busy answer
-  refuses : busy_reply r.message ≡ answer_message (id_of r.own) (kind_of command) (Refused ERROR_NOT_READY)
-  refuses = ap busy_reply known.message ∙ busy_refuses lower.requests r.own command
+  refuses : busy_reply r.message ≡ response_message 0 (id_of r.own) ask.kind ERROR_NOT_READY []
+  refuses = ap busy_reply known.message ∙ busy_refuses lower.requests r.own ask known.kind
 
   pub busy_is_one : piece_count (busy_reply r.message) ≡ 1
   busy_is_one = ap piece_count refuses
@@ -131,16 +128,16 @@ module _ {S : Type 0} (setting : BothEnds S) (lower : Lower) (past : List Step) 
   busy_payload = ap (λ message. piece message 0) refuses ∙ sym refuses
 
   abbrev pub mine : ℕ → Response → Bool
-  mine n response = is_mine r.source setting.eid (timing_of setting r.source) (requests_of setting w r.source) n response
+  mine n response = is_mine (endpoint_of r.source) setting.eid (timing_of setting r.source) (requests_of setting w r.source) n response
 
-  mine_is : (response : Response) → mine r.own response ≡ is_response_to r.own (kind_of command) response
+  mine_is : (response : Response) → mine r.own response ≡ is_response_to r.own ask.kind response
   mine_is response = ap (λ (a : Ask). is_response_to r.own a.kind response) known.asks
 
   pub busy_brings : (before : List Packet) → fed_arrival mine r.own (next before busy_one) ≡ Drop NotReady
   busy_brings before =
       ap (fed_arrival mine r.own) (given_alone MAX_PACKETS before busy_one (omega arith) busy_starts busy_ends)
       ∙ ap (λ message. response_arrival mine r.own message (response_of message)) busy_payload
-      ∙ answer_arrives lower.responses mine r.own command (busy_reply r.message) mine_is (record { answer = Refused ERROR_NOT_READY; is = refuses })
+      ∙ answer_arrives lower.responses mine r.own ask known.kind (busy_reply r.message) mine_is (record { code = ERROR_NOT_READY; rest = []; is = refuses })
       ∙ ap (whole_arrival r.own) refuses
 
   -- ---- a packet of the reply
@@ -179,7 +176,7 @@ module _ {S : Type 0} (setting : BothEnds S) (lower : Lower) (past : List Step) 
     brings_whole : in_row ≡ true → fed_arrival mine r.own gave ≡ whole_arrival r.own m
     brings_whole on =
         ap (fed_arrival mine r.own) (whole_is on)
-        ∙ answer_arrives lower.responses mine r.own command m mine_is (answers j l)
+        ∙ answer_arrives lower.responses mine r.own ask known.kind m mine_is (answers j l)
 
     off : (in_row && is_ready m) ≡ false → completes setting past k j ≡ false
     off e = completes_is ∙ and_right (nat_lt j (part_count setting w k)) _ (and_right (is_waiting setting w r) _ e)

@@ -9,21 +9,20 @@ use Rattle.mctp_packet.specs.declared.reason.Reason.TheVariants.{NotReady}
 use Rattle.mctp_assembly.specs.Rows.{next}
 use Rattle.mctp_assembly.specs.declared.fed.Fed.{Fed}
 use Rattle.mctp_assembly.specs.declared.fed.Fed.TheVariants.{Whole, Partial, Dropped}
-use Rattle.pldm_wire.specs.declared.command.Command.{Command}
 use Rattle.pldm_responder.specs.Performing.{busy_reply}
 use Rattle.pldm_requester.specs.Arrivals.{Arrival, Drop, fed_arrival}
-use Rattle.pldm_requester.specs.Calls.{Receive, Request, accepts, arrived, is_from_device, new_request}
+use Rattle.pldm_requester.specs.Asks.{Ask}
+use Rattle.pldm_requester.specs.Calls.{Receive, Request, accepts, arrived, is_from_device, request_with}
 use Rattle.pldm_requester.specs.Courses.{Course, Progress, Answered, answered, is_open}
-use Rattle.mctp_schedule.specs.Logs.{Asked, Happening, Opened, asked_at, count_of}
+use Rattle.mctp_schedule.specs.Logs.{Asked, Happening, Opened, asked_at, count_of, endpoint_of, AreRested}
 use Rattle.mctp_schedule.specs.Timely.{IsTimelyLog}
 use Rattle.mctp_schedule.specs.FirstArrivals.{first}
 use Rattle.mctp_schedule.specs.OncePerformed.{RepliesFit, given, was_busy}
 use Rattle.mctp_schedule.specs.RequesterHalf.{IsSound, ProgressIs}
 use Rattle.mctp_schedule.specs.TakenReplies.{brought, came, completes, completes_for, is_waiting, part_count, replies, reply_of, taken, way_to}
 use Rattle.mctp_schedule.specs.Worlds.{IsTimelyAction, BothEnds, TagIsOwn, World, answer_packets, asked_by, busy_from, busy_packet, handed, packet_of, reply_packet, requests_of, source_of, timing_of, world}
-use Rattle.schedule_text.specs.declared.step.Action.{Action}
-use Rattle.schedule_text.specs.declared.step.Action.TheVariants as actions
-use Rattle.schedule_text.specs.declared.step.Step.{Step}
+use Rattle.mctp_schedule.specs.Actions.{Action, AreOfKinds, Step}
+use Rattle.mctp_schedule.specs.Actions as actions
 use Rattle.mctp_schedule.proofs.AnswerPacketOutcomes.{Lower, arrival_by, arrival_expected, busy_brings, busy_is, busy_is_one, has_arrived, mine, expected_is_own, packet_is, reads_back, reply_brings}
 use Rattle.mctp_schedule.proofs.FirstPerformed.{request_opened}
 use Rattle.mctp_schedule.proofs.FittingReplies.{fits_before}
@@ -31,6 +30,7 @@ use Rattle.mctp_schedule.proofs.OneReplyGiven.{busy_opened}
 use Rattle.mctp_schedule.proofs.AnswerPacketsAtRequester.{IsOf, comes_in, course_after, packet_past, packet_there, with_arrival}
 use Rattle.mctp_schedule.proofs.KnownRequests.{Known, all_known, asked_stays_done, held_before}
 use Rattle.mctp_schedule.proofs.UntouchedRequests.{Holds, Stands, arrived_stays, claim_moves, first_unopened, holds_kept, no_parts, quiet, reply_stays, same_kept, still_below, still_brought}
+use Rattle.mctp_schedule.proofs.RestedRequesters.{rested_less}
 use Rattle.mctp_schedule.proofs.RowsOfReplies.{Below}
 use Rattle.mctp_schedule.proofs.StepsOnRequests.{called, comes_to_it, comes_to_none, open_keeps, opens_new, others_rest, tick_keeps}
 
@@ -80,17 +80,17 @@ module _ {S : Type 0} (setting : BothEnds S) where
       (none_new step past same)
 
   -- ---- an open
-  module _ (past : List Step) (h : AllHold past) (moment e : ℕ) (command : Command) where
+  module _ (past : List Step) (kinds : AreOfKinds past) (h : AllHold past) (moment e : ℕ) (ask : Ask) where
     abbrev opening : Step
-    opening = record { moment = moment; action = actions.Open e command }
+    opening = record { moment = moment; action = actions.Open e ask }
 
     abbrev new : Asked
-    new = asked_by setting (world setting past) moment e command
+    new = asked_by setting (world setting past) moment e ask
 
     holds_new : (k : ℕ) → asked_at (Log past) k ≡ None → accepts (timing_of setting e).keep setting.pace (requests_of setting (world setting past) e) moment ≡ true → Holds setting (opening ∷ past) k new
     holds_new k off ok =
         let q = quiet setting past k off in
-        let stands : Stands setting (opening ∷ past) new ≡ new_request moment command = opens_new setting (world setting past) (Log (opening ∷ past)) moment e command ok in
+        let stands : Stands setting (opening ∷ past) new ≡ request_with moment ask = opens_new setting (world setting past) (Log (opening ∷ past)) moment e ask ok in
         record {
           fed = λ _. ap (λ (r : Request). r.fed) stands ∙ sym (ap (map (brought setting new (reply_of setting (world setting (opening ∷ past)) k))) q.0);
           below = subst (Below (part_count setting (world setting (opening ∷ past)) k)) (sym q.0) tt;
@@ -112,7 +112,7 @@ module _ {S : Type 0} (setting : BothEnds S) where
     pub holds_open : AllHold (opening ∷ past)
     holds_open =
         all_of opening past
-        (λ k q f. holds_kept setting opening past k q (h k q f) (open_keeps setting (world setting past) (Log (opening ∷ past)) moment e command q ((all_known setting past).known k q f)) refl refl)
+        (λ k q f. holds_kept setting opening past k q (h k q f) (open_keeps setting (world setting past) (Log (opening ∷ past)) moment e ask q ((all_known setting past kinds).known k q f)) refl refl)
         first_seen
 
   -- ---- a delivery to request k
@@ -156,14 +156,14 @@ module _ {S : Type 0} (setting : BothEnds S) where
     p = packet_at (way_to setting q) message j
 
     known : Known setting (world setting past) q
-    known = (all_known setting past).known i q is
+    known = (all_known setting past sound.asks).known i q is
 
     from : is_from_device setting.eid p ≡ true
     from = eq-eqb setting.eid setting.eid refl
 
-    arrives : is_waiting setting (world setting past) q ≡ true → arrived q.source setting.eid (timing_of setting q.source) (requests_of setting (world setting past) q.source) bytes ≡ arrival
+    arrives : is_waiting setting (world setting past) q ≡ true → arrived (endpoint_of q.source) setting.eid (timing_of setting q.source) (requests_of setting (world setting past) q.source) bytes ≡ arrival
     arrives waits =
-        comes_in q.source setting.eid (timing_of setting q.source) setting.pace ((world setting past).calls q.source) lower.found q.own known.within (own q is) p bytes (reads_back setting lower past timely sound i q is message j bytes sent) from refl waits
+        comes_in (endpoint_of q.source) setting.eid (timing_of setting q.source) setting.pace ((world setting past).calls q.source) lower.found q.own known.within (own q is) p bytes (reads_back setting lower past timely sound i q is message j bytes sent) from refl waits
         ∙ brings waits
 
     stands_open : is_waiting setting (world setting past) q ≡ true → Stands setting (step ∷ past) q ≡ with_arrival (Stands setting past q) p arrival
@@ -180,7 +180,7 @@ module _ {S : Type 0} (setting : BothEnds S) where
     stands_other k r f ne =
         ap (λ w. (requests_of setting w r.source).each r.own) now_is
         ∙ others_rest setting (world setting past) (world setting past).log lower.found q moment known (own q is) p bytes (reads_back setting lower past timely sound i q is message j bytes sent) from refl arrival is_own arrives r
-        (λ s o. ne ((all_known setting past).distinct k i r q f is s o))
+        (λ s o. ne ((all_known setting past sound.asks).distinct k i r q f is s o))
 
     -- so the others hold, and it is left to show of request i
     holds_handed : ((k : ℕ) → k ≢ i → replies setting (step ∷ past) k ≡ replies setting past k)
@@ -404,7 +404,7 @@ module _ {S : Type 0} (setting : BothEnds S) where
 
   -- ---- any step
   pub holds_done : (lower : Lower) (past : List Step) → AllHold past → IsTimelyLog S setting.window setting.keep setting.pace.lifetime (world setting past).log → IsSound setting past → (moment : ℕ) (action : Action) → IsTimelyAction setting (world setting past) moment action → AllHold (record { moment = moment; action = action } ∷ past)
-  holds_done lower past h timely sound moment (actions.Open e command) own = holds_open past h moment e command
+  holds_done lower past h timely sound moment (actions.Open e ask) own = holds_open past sound.asks h moment e ask
   holds_done lower past h timely sound moment (actions.Tick e) own =
       let ticking : Step = record { moment = moment; action = actions.Tick e } in
       all_of ticking past
@@ -422,5 +422,6 @@ module _ {S : Type 0} (setting : BothEnds S) where
     pace = s.pace;
     sources = λ k r is. s.sources k r (asked_stays_done setting (world setting past) step.moment step.action k r is);
     fit = held_before setting (RepliesFit setting.device setting.window setting.keep setting.start) (fits_before setting.device setting.window setting.keep setting.start) (world setting past) step.moment step.action s.fit;
-    reads = s.reads;
+    asks = s.asks.1;
+    rested = held_before setting (AreRested setting.keep) (rested_less setting.keep) (world setting past) step.moment step.action s.rested;
   }

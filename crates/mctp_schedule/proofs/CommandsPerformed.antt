@@ -1,7 +1,8 @@
 -- What each step has performed: a delivery that is fresh the command of its request, any other step none. Over a timely
 -- log that is each request's command once, at its first arrival.
-use Rattle.std.proofs.Common.{◌≡◌, ℕ, Bool, true, false, List, [], ◌∷◌, ◌++◌, Option, Some, None, refl, sym, ap, ◌∙◌}
+use Rattle.std.proofs.Common.{◌≡◌, ℕ, Bool, true, false, List, [], ◌∷◌, ◌++◌, Option, Some, None, refl, sym, ap, ◌∙◌, ◌≢◌, subst}
 use Rattle.std.specs.Prelude.{not, ◌&&◌, if◌then◌else◌}
+use Rattle.mctp_packet.specs.Ids.{IsEid}
 use Rattle.pldm_wire.specs.declared.restart_policy.RestartPolicy.TheVariants.{All}
 use Rattle.mctp_packet.specs.Laws.{SpelledIsReadFor, WrittenSpells}
 use Rattle.mctp_assembly.specs.Steps as assembly
@@ -15,17 +16,18 @@ use Rattle.mctp_schedule.specs.Askers.{packet_bytes}
 use Rattle.mctp_schedule.specs.DeviceHalf.{FreshWhereFirst}
 use Rattle.mctp_schedule.specs.FirstArrivals.{first, fresh_of}
 use Rattle.mctp_schedule.specs.HeldRuns.{HeldRun}
-use Rattle.mctp_schedule.specs.Logs.{Asked, Happening, Opened, Delivered, Sensed, WentDown, asked_at, message_at, reached}
+use Rattle.mctp_schedule.specs.Logs.{Asked, Happening, Opened, Delivered, Sensed, WentDown, asked_at, message_at, reached, endpoint_of}
 use Rattle.mctp_schedule.specs.Timely.{IsTimelyLog}
 use Rattle.mctp_schedule.specs.PerformedCommands.{commands_at_delivery, commands_at_step, commands_if, commands_once, commands_performed}
 use Rattle.mctp_schedule.specs.Running.{IsRunning, answer_action, device_calls}
 use Rattle.mctp_schedule.specs.Worlds.{BothEnds, World, done, handed, world}
-use Rattle.schedule_text.specs.declared.step.Action.{Action}
-use Rattle.schedule_text.specs.declared.step.Action.TheVariants as actions
-use Rattle.schedule_text.specs.declared.step.Step.{Step}
+use Rattle.mctp_schedule.specs.Actions.{Action}
+use Rattle.mctp_schedule.specs.Actions as actions
+use Rattle.mctp_schedule.specs.Actions.{Step}
 use Rattle.mctp_schedule.proofs.DeliveryChanges.{brings_message, held_whole}
 use Rattle.mctp_schedule.proofs.AfterDelivery.{performs_is}
 use Rattle.mctp_schedule.proofs.FirstPerformed.{is_first_of}
+use Rattle.mctp_schedule.proofs.RestedRequesters.{first_there}
 
 -- ---- a step adds its commands
 opened_or_not : (S : Type 0) (window keep : ℕ) (accepted : Bool) (r : Asked) (log : List Happening)
@@ -42,7 +44,7 @@ module _ {S : Type 0} (setting : BothEnds S) where
   pub commands_added : (w : World) (moment : ℕ) (action : Action)
       → commands_performed S setting.window setting.keep (done setting w moment action).log
       ≡ commands_at_step S setting.window setting.keep w.log moment action ++ commands_performed S setting.window setting.keep w.log
-  commands_added w moment (actions.Open e command) = opened_or_not S setting.window setting.keep _ _ w.log
+  commands_added w moment (actions.Open e ask) = opened_or_not S setting.window setting.keep _ _ w.log
   commands_added w moment (actions.Tick e) = refl
   commands_added w moment (actions.Request k) = refl
   commands_added w moment (actions.Reply j k) = ap (commands_performed S setting.window setting.keep) (handed_log setting w moment _ _)
@@ -67,14 +69,15 @@ module _ {P S : Type 0} (setting : BothEnds S) (past : List Step) (run : HeldRun
   abbrev held : ResponderState S
   held = held_of run.responder
 
-  module _ (moment n : ℕ) (r : Asked) (is : asked_at log n ≡ Some r) (bytes : List ℕ) (packet_is : bytes ≡ packet_bytes r.source setting.eid r.own r.message) (spells : WrittenSpells) (read_for : SpelledIsReadFor) where
+  module _ (moment n : ℕ) (r : Asked) (is : asked_at log n ≡ Some r) (bytes : List ℕ) (packet_is : bytes ≡ packet_bytes (endpoint_of r.source) setting.eid r.own r.message) (spells : WrittenSpells) (read_for : SpelledIsReadFor) where
     arrival_is : received_arrival held moment bytes ≡ Whole (message_at moment r)
     arrival_is =
         let opened = running.opened n r is in
         let side = running.sides r.source opened.source in
+        let first = first_there r.source side.2.endpoint in
         ap (λ own. arrival (assembly.answer held.open_messages) own moment bytes) running.device.left.endpoint
         ∙ ap (arrival (assembly.answer held.open_messages) setting.eid moment) packet_is
-        ∙ brings_message spells read_for (assembly.answer held.open_messages) setting.eid moment r opened.readable.0 running.device.endpoint side.2.endpoint side.2.other opened.some opened.few opened.readable.1 (held_whole held.open_messages setting.eid r)
+        ∙ brings_message spells read_for (assembly.answer held.open_messages) setting.eid moment r opened.readable.0 running.device.endpoint (subst IsEid (sym first) side.2.endpoint) (subst (λ d. d ≢ setting.eid) (sym first) side.2.other) opened.some opened.few opened.readable.1 (held_whole held.open_messages setting.eid r)
 
     fresh_is : performs held (message_at moment r) ≡ is_fresh All setting.window setting.keep (reached {S = S} log) (message_at moment r)
     fresh_is =

@@ -9,7 +9,7 @@ use Rattle.pldm_responder.specs.Events.{Message, is_busy, is_copy}
 use Rattle.pldm_responder.specs.Performing.{Rules, changes, performed}
 use Rattle.pldm_responder.specs.declared.outcome.Outcome.{Outcome}
 use Rattle.pldm_responder.specs.declared.outcome.Outcome.TheVariants.{Answered}
-use Rattle.mctp_schedule.specs.Logs.{Asked, Delivered, asked_at, message_at, with_reached, reached}
+use Rattle.mctp_schedule.specs.Logs.{Asked, Delivered, asked_at, message_at, with_reached, reached, endpoint_of}
 use Rattle.mctp_schedule.specs.FirstArrivals.{first, is_first}
 use Rattle.mctp_schedule.specs.OncePerformed.{once, the_reply, delivery_expected}
 use Rattle.mctp_schedule.proofs.SameOverAnyState.{same_busy, same_first, same_is_first, same_fresh, same_apart, same_in_time, same_origin}
@@ -54,7 +54,7 @@ fresh_where_first {S} window keep lifetime past moment k r timely e idle =
       copy_is (is_busy keep (reached {S = S} past) moment) (is_copy All window keep (reached {S = S} past) (message_at moment r)) (is_first S keep past moment k) idle is,
       λ place came. (
           let c = copies idle_device window keep lifetime timely.within 0 past moment k r place (holds idle_device window keep lifetime timely.within 0 past timely.order.1 apart_ in_time.1) timely.order.0 (in_time.0 r e).soon ((in_time.0 r e).in_window (ap is_some (same_first ℕ S keep past k ∙ came))) e served (same_first ℕ S keep past k ∙ came) in
-          let q = same_origin S ℕ window keep past r.source (id_at r.message) c.0 c.1 in
+          let q = same_origin S ℕ window keep past (endpoint_of r.source) (id_at r.message) c.0 c.1 in
           let parts = and_parts (bytes_eq r.message c.0.message.bytes) (nat_lt moment (c.0.message.moment + keep)) c.2 in (
             q.0,
             q.1,

@@ -24,7 +24,7 @@ use Rattle.pldm_responder.specs.Performing.{Rules, answered}
 use Rattle.pldm_requester.specs.Numbering.{route_of}
 use Rattle.mctp_schedule.specs.Askers.{packet_bytes}
 use Rattle.mctp_schedule.specs.FirstArrivals.{arrives, first, has_arrived, is_answered_busy}
-use Rattle.mctp_schedule.specs.Logs.{Asked, Happening, Delivered, asked_at, message_at, reached}
+use Rattle.mctp_schedule.specs.Logs.{Asked, Happening, Delivered, asked_at, message_at, reached, endpoint_of}
 use Rattle.mctp_schedule.specs.OncePerformed.{answered_to, given, was_busy}
 use Rattle.mctp_schedule.proofs.FirstPerformed.{first_busy, first_here, first_none, first_other, first_stays}
 
@@ -99,7 +99,7 @@ module _ (S : Type 0) (keep : ℕ) (past : List Happening) (moment n : ℕ) wher
 
 -- ---- the packet of a request, which has both SOM and EOM, is a whole message after any others
 abbrev pub packet_for : ℕ → Asked → Packet
-packet_for eid r = packet (route_of r.source eid r.own) true true 0 r.message
+packet_for eid r = packet (route_of (endpoint_of r.source) eid r.own) true true 0 r.message
 
 pub held_whole : (held : assembly.OpenMessages) (eid : ℕ) (r : Asked) → assembly.answer held (packet_for eid r) ≡ feds.Whole (record { items = r.message })
 held_whole held eid r = go (map.get held (key_of (packet_for eid r)))
@@ -111,8 +111,8 @@ held_whole held eid r = go (map.get held (key_of (packet_for eid r)))
 pub looked_whole : (calls : List histories.Call) (eid : ℕ) (r : Asked) → looked_back calls (packet_for eid r) ≡ feds.Whole (record { items = r.message })
 looked_whole calls eid r = refl
 
-pub brings_message : WrittenSpells → SpelledIsReadFor → (gives : Packet → Fed) (eid moment : ℕ) (r : Asked) (request : requests.Request) → IsEid eid → IsEid r.source → r.source ≢ eid → 0 < length r.message → length r.message ≤ BASELINE_UNIT → request_of r.message ≡ Ok request
-    → gives (packet_for eid r) ≡ feds.Whole (record { items = r.message }) → arrival gives eid moment (packet_bytes r.source eid r.own r.message) ≡ Whole (message_at moment r)
+pub brings_message : WrittenSpells → SpelledIsReadFor → (gives : Packet → Fed) (eid moment : ℕ) (r : Asked) (request : requests.Request) → IsEid eid → IsEid (endpoint_of r.source) → endpoint_of r.source ≢ eid → 0 < length r.message → length r.message ≤ BASELINE_UNIT → request_of r.message ≡ Ok request
+    → gives (packet_for eid r) ≡ feds.Whole (record { items = r.message }) → arrival gives eid moment (packet_bytes (endpoint_of r.source) eid r.own r.message) ≡ Whole (message_at moment r)
 brings_message spells read_for gives eid moment r request own source other some few readable whole =
     let p = packet_for eid r in
     let parts : IsPacket p = record { destination = own; source = source; tag = omega arith; seq = omega arith; payload = (some, few) } in

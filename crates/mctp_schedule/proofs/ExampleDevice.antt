@@ -11,9 +11,7 @@ use Rattle.simulated_device.specs.StateEffecters.{fields_of_states}
 use Rattle.pldm_requester.specs.Pacing.{at_default}
 use Rattle.pldm_responder.specs.Performing.{rules_of}
 use Rattle.mctp_schedule.specs.Worlds.{BothEnds}
-use Rattle.schedule_text.specs.declared.step.Action.{Action}
-use Rattle.schedule_text.specs.declared.step.Action.TheVariants.{Open}
-use Rattle.schedule_text.specs.declared.step.Step.{Step}
+use Rattle.mctp_schedule.specs.Actions.{Action, Step, open_for}
 
 -- the device, with this reading of sensor 1 and this value of numeric effecter 1
 abbrev pub with_values : ℤ → ℤ → Device
@@ -46,4 +44,4 @@ abbrev pub at : ℕ → Action → Step
 at moment action = record { moment = moment; action = action }
 
 abbrev pub set_to : ℕ → ℤ → Action
-set_to e value = Open e (SetNumericEffecterValue 1 (sized Uint8 value))
+set_to e value = open_for e (SetNumericEffecterValue 1 (sized Uint8 value))

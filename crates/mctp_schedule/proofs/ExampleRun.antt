@@ -1,21 +1,23 @@
 -- The premises of the headline and of the laws under it are met by one run over the example device: requests that come
 -- in another order and again, a request and an answer that are lost, packets of an answer out of order, a restart, and
 -- an instance ID that is used again after 32 requests. The newest step stands first.
-use Rattle.std.proofs.Common.{◌≡◌, ◌≢◌, ℕ, zero, suc, ◌+◌, pos, List, [], ◌∷◌, ◌++◌, map, replicate, reverse, Some, true, false, refl, inr, arith}
+use Rattle.std.proofs.Common.{◌≡◌, ◌≢◌, ℕ, ℤ, zero, suc, ◌+◌, pos, List, [], ◌∷◌, ◌++◌, map, replicate, reverse, Some, true, false, refl, inr, arith}
 use Rattle.std.specs.Prelude.{option_map}
 use Rattle.std.specs.List.{range_with_len}
 use Rattle.pldm_wire.specs.declared.restart_policy.RestartPolicy.TheVariants.{All}
 use Rattle.mctp_packet.specs.Ids.{IsEid}
 use Rattle.pldm_wire.specs.CommandReading.{command_of}
+use Rattle.pldm_wire.specs.Numbers.{sized}
 use Rattle.pldm_wire.specs.Requests.{request_of}
 use Rattle.pldm_wire.specs.Responses.{response_of}
-use Rattle.pldm_wire.specs.declared.command.Command.TheVariants.{GetTid, GetPdr, GetSensorReading}
+use Rattle.pldm_wire.specs.declared.command.Command.TheVariants.{GetTid, GetPdr, GetSensorReading, SetNumericEffecterValue}
+use Rattle.pldm_wire.specs.declared.size.Size.TheVariants.{Uint8}
 use Rattle.simulated_device.specs.Devices.{Device}
 use Rattle.pldm_requester.specs.Courses.{Answered, GaveUp}
 use Rattle.pldm_responder.specs.Performing.{performed}
 use Rattle.mctp_schedule.specs.FirstArrivals.{firsts}
 use Rattle.mctp_schedule.specs.Headline.{state_once}
-use Rattle.mctp_schedule.specs.Logs.{Asked, asked_at, reached}
+use Rattle.mctp_schedule.specs.Logs.{Asked, asked_at, reached, endpoint_of}
 use Rattle.mctp_schedule.specs.Timely.{IsTimelyLog}
 use Rattle.mctp_schedule.specs.OncePerformed.{AreRequests}
 use Rattle.mctp_schedule.specs.RequesterHalf.{IsTimelySchedule}
@@ -23,55 +25,67 @@ use Rattle.mctp_schedule.specs.Runs.{newest_first}
 use Rattle.schedule_text.specs.Schedules.{IsSchedule, Spelled}
 use Rattle.mctp_schedule.specs.TakenReplies.{is_waiting, replies, taken}
 use Rattle.mctp_schedule.specs.Worlds.{BothEnds, is_timely, requests_of, world}
+use Rattle.mctp_schedule.specs.Actions.{Step, as_steps}
+use Rattle.schedule_text.specs.declared.step.Action.{Action}
 use Rattle.schedule_text.specs.declared.step.Action.TheVariants.{Open, Tick, Request, Reply, Sense, Restart, Busy}
-use Rattle.schedule_text.specs.declared.step.Step.{Step}
+use Rattle.schedule_text.specs.declared.step.Step.{Step as TextStep}
 use Rattle.mctp_schedule.proofs.DeliveriesExpected.{state_is_once}
-use Rattle.mctp_schedule.proofs.ExampleDevice.{at, set_to, with_tries, with_values}
+use Rattle.mctp_schedule.proofs.ExampleDevice.{with_tries, with_values}
 use Rattle.mctp_schedule.proofs.SourcesOfRequests.{each_known_opens_at, sources_of}
-use Rattle.mctp_schedule.proofs.PremiseTests.{all_fit, all_known, all_read, apart, are_requests, each_is_known, goes_on, in_order, in_time, is_schedule, never_went_back, replies_fit, timely_log}
+use Rattle.mctp_schedule.proofs.SpelledAsks.{spelled_asks}
+use Rattle.mctp_schedule.proofs.PremiseTests.{all_fit, all_known, all_read, all_rest, apart, are_requests, are_rested, each_is_known, goes_on, in_order, in_time, is_schedule, never_went_back, replies_fit, timely_log}
 use Rattle.mctp_schedule.proofs.TimelyTests.{timely_is_tested}
 
 abbrev setting : BothEnds Device
 setting = with_tries 3 5
 
+abbrev at : ℕ → Action → TextStep
+at moment action = record { moment = moment; action = action }
+
+abbrev set_to : ℕ → ℤ → Action
+set_to e value = Open e (SetNumericEffecterValue 1 (sized Uint8 value))
+
 -- the request of 10 comes before that of 8, and comes again; the answer to that of 8 is lost, and the one to its retry
 -- comes
-abbrev retried : List Step
+abbrev retried : List TextStep
 retried =
     at 210 (Reply 0 0) ∷ at 200 (Request 0) ∷ at 200 (Tick 8) ∷ at 8 (Reply 0 1) ∷ at 7 (Request 1) ∷ at 6 (Request 0)
     ∷ at 5 (Request 1) ∷ at 0 (set_to 10 (pos 50)) ∷ at 0 (set_to 8 (pos 40)) ∷ []
 
 -- an answer of four packets: the third comes before the second, then all come in order
-abbrev out_of_order : List Step
+abbrev out_of_order : List TextStep
 out_of_order =
     at 310 (Reply 1 2) ∷ at 310 (Reply 2 2) ∷ at 310 (Reply 0 2) ∷ at 300 (Request 2)
     ∷ at 300 (Open 8 (GetPdr 0 0 1 239 0)) ∷ retried
 
-abbrev in_parts : List Step
+abbrev in_parts : List TextStep
 in_parts =
     at 320 (Reply 3 2) ∷ at 320 (Reply 2 2) ∷ at 320 (Reply 1 2) ∷ at 320 (Reply 0 2) ∷ out_of_order
 
 -- so many more requests of 8, from number 3 on, each answered at once
-abbrev so_many_more : ℕ → List Step
+abbrev so_many_more : ℕ → List TextStep
 so_many_more zero = in_parts
 so_many_more (suc n) =
     at 400 (Reply 0 (n + 3)) ∷ at 400 (Request (n + 3)) ∷ at 400 (Open 8 GetTid) ∷ so_many_more n
 
 -- 10 sets another value, and 8 asks with the bytes of its first request, which has the same instance ID
-abbrev used_again : List Step
+abbrev used_again : List TextStep
 used_again =
     at 2000 (Reply 0 34) ∷ at 2000 (Request 34) ∷ at 2000 (set_to 8 (pos 40)) ∷ at 500 (Reply 0 33) ∷ at 500 (Request 33)
     ∷ at 500 (set_to 10 (pos 60)) ∷ so_many_more 30
 
 -- a restart: the busy answer is not taken, and the one to the retry is
-abbrev restarted : List Step
+abbrev restarted : List TextStep
 restarted =
     at 3110 (Reply 0 35) ∷ at 3100 (Request 35) ∷ at 3100 (Tick 10) ∷ at 2210 (Busy 35) ∷ at 2200 (Request 35)
     ∷ at 2200 (Open 10 (GetSensorReading 1 0)) ∷ at 2100 Restart ∷ at 2050 (Sense 1 (pos 41)) ∷ used_again
 
 -- a request that is lost is given up
+abbrev spelled : List TextStep
+spelled = at 4120 (Tick 10) ∷ at 3120 (Open 10 GetTid) ∷ restarted
+
 abbrev steps : List Step
-steps = at 4120 (Tick 10) ∷ at 3120 (Open 10 GetTid) ∷ restarted
+steps = as_steps spelled
 
 -- ---- what the definitions give for it
 in_this_order : firsts Device 1000 (world setting steps).log ≡ 1 ∷ 0 ∷ range_with_len 2 34
@@ -99,11 +113,11 @@ unfolding request_of command_of response_of
 lost_one_is_given_up = refl
 
 -- the request whose packets came out of order is still open after them
-still_open : option_map (is_waiting setting (world setting out_of_order)) (asked_at (world setting out_of_order).log 2) ≡ Some true
+still_open : option_map (is_waiting setting (world setting (as_steps out_of_order))) (asked_at (world setting (as_steps out_of_order)).log 2) ≡ Some true
 unfolding request_of command_of response_of
 still_open = refl
 
-these_came : replies setting out_of_order 2 ≡ Some 1 ∷ Some 2 ∷ Some 0 ∷ []
+these_came : replies setting (as_steps out_of_order) 2 ≡ Some 1 ∷ Some 2 ∷ Some 0 ∷ []
 unfolding request_of command_of response_of
 these_came = refl
 
@@ -114,16 +128,16 @@ answered_again = refl
 
 -- ---- the premises
 abbrev schedule : Spelled
-schedule = record { requesters = setting.requesters; steps = reverse steps }
+schedule = record { requesters = setting.requesters; steps = reverse spelled }
 
 pub a_schedule : IsSchedule schedule
-a_schedule = is_schedule setting.requesters (reverse steps) (refl, (refl, tt)) refl refl
+a_schedule = is_schedule setting.requesters (reverse spelled) (refl, (refl, tt)) refl refl
 
 these_steps : newest_first schedule ≡ steps
 these_steps = refl
 
 abbrev IsOther : ℕ → Type 0
-IsOther e = IsEid e × (e ≢ 9)
+IsOther e = IsEid (endpoint_of e) × (endpoint_of e ≢ 9)
 
 is_eight : IsOther 8
 is_eight = ((omega arith, omega arith), omega arith)
@@ -145,6 +159,10 @@ fit_here : all_fit setting.device 32 1000 setting.start (world setting steps).lo
 unfolding request_of command_of response_of
 fit_here = refl
 
+rested_here : all_rest 1000 (world setting steps).log ≡ true
+unfolding request_of command_of response_of
+rested_here = refl
+
 pub timely_schedule : IsTimelySchedule setting steps
 timely_schedule = record {
   order = never_went_back steps goes_on_here;
@@ -156,7 +174,8 @@ timely_schedule = record {
         (each_known_opens_at IsOther setting.requesters (is_eight, (is_ten, tt)) steps (each_is_known setting.requesters steps known_here));
     fit = replies_fit setting.device 32 1000 setting.start (world setting steps).log fit_here;
     pace = record { within = omega arith; window = inr refl };
-    reads = λ kind. refl;
+    asks = spelled_asks spelled;
+    rested = are_rested 1000 (world setting steps).log rested_here;
   };
 }
 

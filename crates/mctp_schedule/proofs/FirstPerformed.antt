@@ -8,7 +8,7 @@ use Rattle.pldm_wire.specs.Headers.{id_at}
 use Rattle.pldm_platform.specs.Changes.{changed_or}
 use Rattle.pldm_responder.specs.Events.{Message, Event, Came, Place, is_of, is_busy, is_copy, is_copy_of, is_fresh, origin, busy_until, id_of, recent}
 use Rattle.pldm_responder.specs.Performing.{Rules, performed, answered, reply_at, next, reply}
-use Rattle.mctp_schedule.specs.Logs.{Asked, Happening, Opened, Delivered, Sensed, WentDown, last_of, count_of, asked_at, message_at, with_reached, reached, InOrder}
+use Rattle.mctp_schedule.specs.Logs.{Asked, Happening, Opened, Delivered, Sensed, WentDown, last_of, count_of, asked_at, message_at, with_reached, reached, InOrder, endpoint_of}
 use Rattle.mctp_schedule.specs.Timely.{AreApart, InTime, ids_arrived, is_in_window, with_first}
 use Rattle.mctp_schedule.specs.FirstArrivals.{arrives, earlier, first, is_first, order, firsts}
 use Rattle.mctp_schedule.specs.OncePerformed.{bytes_of, once, reply_from, the_reply}
@@ -70,7 +70,7 @@ module _ (S : Type 0) where
       go ih None is None was false f = absurd (cc)
 
 -- two requests with one instance ID of one source are opened twice the lifetime apart
-pub apart : (S : Type 0) (window keep lifetime : ℕ) (log : List Happening) → AreApart S window keep lifetime log → (k j : ℕ) (r q : Asked) → asked_at log k ≡ Some r → asked_at log j ≡ Some q → k ≢ j → q.source ≡ r.source → id_at q.message ≡ id_at r.message → (r.opening + 2 * lifetime ≤ q.opening) ⊎ (q.opening + 2 * lifetime ≤ r.opening)
+pub apart : (S : Type 0) (window keep lifetime : ℕ) (log : List Happening) → AreApart S window keep lifetime log → (k j : ℕ) (r q : Asked) → asked_at log k ≡ Some r → asked_at log j ≡ Some q → k ≢ j → endpoint_of q.source ≡ endpoint_of r.source → id_at q.message ≡ id_at r.message → (r.opening + 2 * lifetime ≤ q.opening) ⊎ (q.opening + 2 * lifetime ≤ r.opening)
 apart S window keep lifetime [] a k j r q e f ne s i = absurd (cc)
 apart S window keep lifetime (Delivered _ _ ∷ past) a k j r q e f ne s i = apart S window keep lifetime past a k j r q e f ne s i
 apart S window keep lifetime (Sensed _ _ _ ∷ past) a k j r q e f ne s i = apart S window keep lifetime past a k j r q e f ne s i
@@ -79,8 +79,8 @@ apart S window keep lifetime (Opened p ∷ past) a k j r q e f ne s i = go (λ x
   where
     go : (asked_at past k ≡ Some r → asked_at past j ≡ Some q → (r.opening + 2 * lifetime ≤ q.opening) ⊎ (q.opening + 2 * lifetime ≤ r.opening)) → (((k ≡ count_of past) × (p ≡ r)) ⊎ ((k ≢ count_of past) × (asked_at past k ≡ Some r))) → (((j ≡ count_of past) × (p ≡ q)) ⊎ ((j ≢ count_of past) × (asked_at past j ≡ Some q))) → (r.opening + 2 * lifetime ≤ q.opening) ⊎ (q.opening + 2 * lifetime ≤ r.opening)
     go ih (inl x) (inl y) = absurd (ne (x.0 ∙ sym y.0))
-    go ih (inl x) (inr y) = inr (subst (λ (o : Asked). q.opening + 2 * lifetime ≤ o.opening) x.1 (a.0 j q y.1 (s ∙ ap (λ (o : Asked). o.source) (sym x.1)) (i ∙ ap (λ (o : Asked). id_at o.message) (sym x.1))).0)
-    go ih (inr x) (inl y) = inl (subst (λ (o : Asked). r.opening + 2 * lifetime ≤ o.opening) y.1 (a.0 k r x.1 (sym s ∙ ap (λ (o : Asked). o.source) (sym y.1)) (sym i ∙ ap (λ (o : Asked). id_at o.message) (sym y.1))).0)
+    go ih (inl x) (inr y) = inr (subst (λ (o : Asked). q.opening + 2 * lifetime ≤ o.opening) x.1 (a.0 j q y.1 (s ∙ ap (λ (o : Asked). endpoint_of o.source) (sym x.1)) (i ∙ ap (λ (o : Asked). id_at o.message) (sym x.1))).0)
+    go ih (inr x) (inl y) = inl (subst (λ (o : Asked). r.opening + 2 * lifetime ≤ o.opening) y.1 (a.0 k r x.1 (sym s ∙ ap (λ (o : Asked). endpoint_of o.source) (sym y.1)) (sym i ∙ ap (λ (o : Asked). id_at o.message) (sym y.1))).0)
     go ih (inr x) (inr y) = ih x.1 y.1
 
 module _ (S : Type 0) where
@@ -139,15 +139,15 @@ module _ (S : Type 0) (window keep lifetime : ℕ) where
   abbrev IsFree : List Happening → ℕ → Asked → Type 0
   IsFree log k r =
       (r.opening + lifetime ≤ last_of log)
-      ⊎ ((j : ℕ) (q : Asked) → asked_at log j ≡ Some q → k ≢ j → q.source ≡ r.source → id_at q.message ≡ id_at r.message → q.opening + 2 * lifetime ≤ r.opening → IsFreeOf log r q)
+      ⊎ ((j : ℕ) (q : Asked) → asked_at log j ≡ Some q → k ≢ j → endpoint_of q.source ≡ endpoint_of r.source → id_at q.message ≡ id_at r.message → q.opening + 2 * lifetime ≤ r.opening → IsFreeOf log r q)
 
   -- nothing is delivered
   free_later : (log past : List Happening) (k : ℕ) (r : Asked) → last_of past ≤ last_of log → ((j : ℕ) → asked_at log j ≡ asked_at past j) → ((source : ℕ) → ids_arrived S keep log source ≡ ids_arrived S keep past source) → IsFree past k r → IsFree log k r
   free_later log past k r later asked ids free =
       ⊎_elim
       (λ (x : r.opening + lifetime ≤ last_of past). inl (omega arith))
-      (λ (f : (j : ℕ) (q : Asked) → asked_at past j ≡ Some q → k ≢ j → q.source ≡ r.source → id_at q.message ≡ id_at r.message → q.opening + 2 * lifetime ≤ r.opening → IsFreeOf past r q).
-      inr (λ j q e ne s i far. subst (λ xs. (q.opening + 2 * keep ≤ r.opening) ⊎ (list_any (λ id. id == id_at r.message) (take window xs) ≡ false)) (sym (ids r.source)) (f j q (sym (asked j) ∙ e) ne s i far)))
+      (λ (f : (j : ℕ) (q : Asked) → asked_at past j ≡ Some q → k ≢ j → endpoint_of q.source ≡ endpoint_of r.source → id_at q.message ≡ id_at r.message → q.opening + 2 * lifetime ≤ r.opening → IsFreeOf past r q).
+      inr (λ j q e ne s i far. subst (λ xs. (q.opening + 2 * keep ≤ r.opening) ⊎ (list_any (λ id. id == id_at r.message) (take window xs) ≡ false)) (sym (ids (endpoint_of r.source))) (f j q (sym (asked j) ∙ e) ne s i far)))
       free
 
   -- one more request is opened
@@ -158,7 +158,7 @@ module _ (S : Type 0) (window keep lifetime : ℕ) where
       new x = inr (λ j q f ne s i far. ⊎_elim
           (λ (y : (j ≡ count_of past) × (p ≡ q)). absurd (ne (x.0 ∙ sym y.0)))
           (λ (y : (j ≢ count_of past) × (asked_at past j ≡ Some q)).
-          subst (λ (z : Asked). IsFreeOf (Opened p ∷ past) z q) x.1 (a.0 j q y.1 (s ∙ ap (λ (z : Asked). z.source) (sym x.1)) (i ∙ ap (λ (z : Asked). id_at z.message) (sym x.1))).1)
+          subst (λ (z : Asked). IsFreeOf (Opened p ∷ past) z q) x.1 (a.0 j q y.1 (s ∙ ap (λ (z : Asked). endpoint_of z.source) (sym x.1)) (i ∙ ap (λ (z : Asked). id_at z.message) (sym x.1))).1)
           (request_opened p past j q f))
 
       old : (k ≢ count_of past) × (asked_at past k ≡ Some r) → IsFree (Opened p ∷ past) k r
@@ -167,7 +167,7 @@ module _ (S : Type 0) (window keep lifetime : ℕ) where
           let later = o.0 in
           ⊎_elim
           (λ (z : r.opening + lifetime ≤ last_of past). inl (omega arith))
-          (λ (f : (j : ℕ) (q : Asked) → asked_at past j ≡ Some q → k ≢ j → q.source ≡ r.source → id_at q.message ≡ id_at r.message → q.opening + 2 * lifetime ≤ r.opening → IsFreeOf past r q).
+          (λ (f : (j : ℕ) (q : Asked) → asked_at past j ≡ Some q → k ≢ j → endpoint_of q.source ≡ endpoint_of r.source → id_at q.message ≡ id_at r.message → q.opening + 2 * lifetime ≤ r.opening → IsFreeOf past r q).
           ⊎_elim
           (λ (some : 0 < lifetime).
           inr (λ j q g ne s i far. ⊎_elim
@@ -191,7 +191,7 @@ module _ (S : Type 0) (window keep lifetime : ℕ) where
         go (Some p) is = absurd (let wrong : Some p ≡ None = sym is ∙ sym (first_stays S keep past t m k p is) ∙ none in cc)
 
     abbrev Touches : Asked → Type 0
-    Touches q = (asked_at past m ≡ Some q) × (is_first S keep past t m ≡ true) × (q.source ≡ r.source) × (id_at q.message ≡ id_at r.message)
+    Touches q = (asked_at past m ≡ Some q) × (is_first S keep past t m ≡ true) × (endpoint_of q.source ≡ endpoint_of r.source) × (id_at q.message ≡ id_at r.message)
 
     -- its instance ID is not put in front
     untouched : ((q : Asked) → Touches q → ⊥) → IsFree log k r
@@ -199,11 +199,11 @@ module _ (S : Type 0) (window keep lifetime : ℕ) where
         let later = o.0 in
         ⊎_elim
         (λ (x : r.opening + lifetime ≤ last_of past). inl (omega arith))
-        (λ (f : (j : ℕ) (q : Asked) → asked_at past j ≡ Some q → k ≢ j → q.source ≡ r.source → id_at q.message ≡ id_at r.message → q.opening + 2 * lifetime ≤ r.opening → IsFreeOf past r q).
+        (λ (f : (j : ℕ) (q : Asked) → asked_at past j ≡ Some q → k ≢ j → endpoint_of q.source ≡ endpoint_of r.source → id_at q.message ≡ id_at r.message → q.opening + 2 * lifetime ≤ r.opening → IsFreeOf past r q).
         inr (λ j q g ne s i far. ⊎_elim
         (λ (late : q.opening + 2 * keep ≤ r.opening). inl late)
         (λ (out : is_in_window S window keep past r ≡ false).
-        inr (out_stays window (is_first S keep past t m) (asked_at past m) r (ids_arrived S keep past r.source) (ids_apart S keep past r.source) (λ p is on source id. never p (is, on, source, id)) out))
+        inr (out_stays window (is_first S keep past t m) (asked_at past m) r (ids_arrived S keep past (endpoint_of r.source)) (ids_apart S keep past (endpoint_of r.source)) (λ p is on source id. never p (is, on, source, id)) out))
         (f j q g ne s i far)))
         (before was)
 
@@ -252,14 +252,14 @@ in_some x y e = cc
 module _ {S : Type 0} (device : Rules S) (window keep lifetime : ℕ) (less : lifetime ≤ keep) (start : S) where
   -- the entry of a request that has arrived is its own
   abbrev Kept : List Happening → List (Event S) → ℕ → Asked → Type 0
-  Kept log h k r = (p : Place S) × (latest window keep h r.source (id_at r.message) ≡ Some p) × (p.message.bytes ≡ r.message) × (r.opening ≤ p.message.moment) × (reply_at device All window keep start p ≡ reply_from device keep start r.message (first S keep log k))
+  Kept log h k r = (p : Place S) × (latest window keep h (endpoint_of r.source) (id_at r.message) ≡ Some p) × (p.message.bytes ≡ r.message) × (r.opening ≤ p.message.moment) × (reply_at device All window keep start p ≡ reply_from device keep start r.message (first S keep log k))
 
   -- or no copy of it can come any more, or the responder is busy as long as one can
   abbrev Progress : List Happening → List (Event S) → ℕ → Asked → Type 0
   Progress log h k r = Kept log h k r ⊎ ((r.opening + lifetime ≤ last_of log) ⊎ (r.opening + lifetime ≤ busy_until keep h))
 
   abbrev Owner : List Happening → ℕ → ℕ → Place S → Type 0
-  Owner log source id p = (k : ℕ) × (r : Asked) × (place : List Happening) × (asked_at log k ≡ Some r) × (r.source ≡ source) × (id_at r.message ≡ id) × (first S keep log k ≡ Some place) × (p.message.moment < r.opening + lifetime)
+  Owner log source id p = (k : ℕ) × (r : Asked) × (place : List Happening) × (asked_at log k ≡ Some r) × (endpoint_of r.source ≡ source) × (id_at r.message ≡ id) × (first S keep log k ≡ Some place) × (p.message.moment < r.opening + lifetime)
 
   pub record Inv (log : List Happening) (h : List (Event S)) : Type 0 where
     pub same : performed device All window keep start h ≡ once device keep start log
@@ -279,7 +279,7 @@ module _ {S : Type 0} (device : Rules S) (window keep lifetime : ℕ) (less : li
   }
     where
       moves : (j : ℕ) (q : Asked) → Progress past (reached {S = S} past) j q → Progress (Delivered t k ∷ past) (Came m ∷ reached {S = S} past) j q
-      moves j q (inl x) = inl (x.0, latest_stays window keep (reached {S = S} past) m old q.source (id_at q.message) ∙ x.1, x.2, x.3, x.4 ∙ ap (reply_from device keep start q.message) (sym (firsts j)))
+      moves j q (inl x) = inl (x.0, latest_stays window keep (reached {S = S} past) m old (endpoint_of q.source) (id_at q.message) ∙ x.1, x.2, x.3, x.4 ∙ ap (reply_from device keep start q.message) (sym (firsts j)))
       moves j q (inr (inl x)) = inr (inl (omega arith))
       moves j q (inr (inr x)) = inr (inr x)
 
@@ -301,12 +301,12 @@ module _ {S : Type 0} (device : Rules S) (window keep lifetime : ℕ) (less : li
       opened : (j : ℕ) (q : Asked) → asked_at past j ≡ Some q → q.opening ≤ t
       opened j q x = let i = opened_before past order j q x in omega arith
 
-      moves : (j : ℕ) (q : Asked) → k ≢ j → asked_at past j ≡ Some q → Progress past (reached {S = S} past) j q → (is_of m q.source (id_at q.message) ≡ true) ⊎ (is_of m q.source (id_at q.message) ≡ false) → Progress (Delivered t k ∷ past) (Came m ∷ reached {S = S} past) j q
+      moves : (j : ℕ) (q : Asked) → k ≢ j → asked_at past j ≡ Some q → Progress past (reached {S = S} past) j q → (is_of m (endpoint_of q.source) (id_at q.message) ≡ true) ⊎ (is_of m (endpoint_of q.source) (id_at q.message) ≡ false) → Progress (Delivered t k ∷ past) (Came m ∷ reached {S = S} past) j q
       moves j q ne e' (inr (inl x)) b = inr (inl (omega arith))
       moves j q ne e' (inr (inr x)) b = inr (inr x)
-      moves j q ne e' (inl x) (inr other) = inl (x.0, latest_other window keep (reached {S = S} past) m q.source (id_at q.message) other ∙ x.1, x.2, x.3, x.4 ∙ ap (reply_from device keep start q.message) (sym (first_other S keep past t k j ne)))
+      moves j q ne e' (inl x) (inr other) = inl (x.0, latest_other window keep (reached {S = S} past) m (endpoint_of q.source) (id_at q.message) other ∙ x.1, x.2, x.3, x.4 ∙ ap (reply_from device keep start q.message) (sym (first_other S keep past t k j ne)))
       moves j q ne e' (inl x) (inl pair) =
-          let parts = and_parts (r.source == q.source) (id_at r.message == id_at q.message) pair in
+          let parts = and_parts (endpoint_of r.source == endpoint_of q.source) (id_at r.message == id_at q.message) pair in
           let far = apart S window keep lifetime past apart_ j k q r e' e (λ y. ne (sym y)) (eqb-true _ _ parts.0) (eqb-true _ _ parts.1) in
           let before = opened j q e' in
           ⊎_elim
@@ -318,7 +318,7 @@ module _ {S : Type 0} (device : Rules S) (window keep lifetime : ℕ) (less : li
       own j q is same =
           inl (subst (λ (x : ℕ × Asked). Kept (Delivered t k ∷ past) (Came m ∷ reached {S = S} past) x.0 x.1) (λ i. (is i, same i)) (
             record { before = reached {S = S} past; message = m },
-            latest_new window keep (reached {S = S} past) m r.source (id_at r.message) new (is_of_self m),
+            latest_new window keep (reached {S = S} past) m (endpoint_of r.source) (id_at r.message) new (is_of_self m),
             refl,
             opened k r e,
             ap (λ s. reply device s r.message) inv.same ∙ ap (reply_from device keep start r.message) (sym here),
@@ -326,11 +326,11 @@ module _ {S : Type 0} (device : Rules S) (window keep lifetime : ℕ) (less : li
 
       known_case : (j : ℕ) (q : Asked) (place : List Happening) → asked_at past j ≡ Some q → first S keep (Delivered t k ∷ past) j ≡ Some place → (k ≡ j) ⊎ (k ≡ j → ⊥) → Progress (Delivered t k ∷ past) (Came m ∷ reached {S = S} past) j q
       known_case j q place e' f (inl is) = own j q is (let x : Some r ≡ Some q = sym e ∙ ap (asked_at past) is ∙ e' in cc)
-      known_case j q place e' f (inr ne) = moves j q ne e' (inv.known j q place e' (sym (first_other S keep past t k j ne) ∙ f)) (cases_Bool (is_of m q.source (id_at q.message)))
+      known_case j q place e' f (inr ne) = moves j q ne e' (inv.known j q place e' (sym (first_other S keep past t k j ne) ∙ f)) (cases_Bool (is_of m (endpoint_of q.source) (id_at q.message)))
 
       owned_case : (s i : ℕ) (p : Place S) → latest window keep (Came m ∷ reached {S = S} past) s i ≡ Some p → (is_of m s i ≡ true) ⊎ (is_of m s i ≡ false) → Owner (Delivered t k ∷ past) s i p
       owned_case s i p o (inl pair) =
-          let parts = and_parts (r.source == s) (id_at r.message == i) pair in
+          let parts = and_parts (endpoint_of r.source == s) (id_at r.message == i) pair in
           let at : record { before = reached {S = S} past; message = m } ≡ p = in_some {A = Place S} (record { before = reached {S = S} past; message = m }) p (sym (latest_new window keep (reached past) m s i new pair) ∙ o) in
           let when : t ≡ p.message.moment = ap (λ (x : Place S). x.message.moment) at in
           (k, r, past, e, eqb-true _ _ parts.0, eqb-true _ _ parts.1, here, omega (arith, when))
@@ -339,13 +339,13 @@ module _ {S : Type 0} (device : Rules S) (window keep lifetime : ℕ) (less : li
           (w.0, w.1, w.2, w.3, w.4, w.5, first_stays S keep past t k w.0 w.2 w.6 ∙ w.6, w.7)
 
   -- a delivery of a request that has arrived is a copy of its own first arrival
-  pub copies : (past : List Happening) (t k : ℕ) (r : Asked) (place : List Happening) → Inv past (reached {S = S} past) → last_of past ≤ t → t < r.opening + lifetime → is_in_window S window keep past r ≡ true → asked_at past k ≡ Some r → is_busy keep (reached {S = S} past) t ≡ false → first S keep past k ≡ Some place → (p : Place S) × (origin All window keep (reached {S = S} past) r.source (id_at r.message) ≡ Some p) × (is_copy_of keep (message_at t r) (Some p) ≡ true) × (reply_at device All window keep start p ≡ reply_from device keep start r.message (first S keep past k))
+  pub copies : (past : List Happening) (t k : ℕ) (r : Asked) (place : List Happening) → Inv past (reached {S = S} past) → last_of past ≤ t → t < r.opening + lifetime → is_in_window S window keep past r ≡ true → asked_at past k ≡ Some r → is_busy keep (reached {S = S} past) t ≡ false → first S keep past k ≡ Some place → (p : Place S) × (origin All window keep (reached {S = S} past) (endpoint_of r.source) (id_at r.message) ≡ Some p) × (is_copy_of keep (message_at t r) (Some p) ≡ true) × (reply_at device All window keep start p ≡ reply_from device keep start r.message (first S keep past k))
   copies past t k r place inv later soon within e idle came = go (inv.known k r place e came)
     where
-      go : Progress past (reached {S = S} past) k r → (p : Place S) × (origin All window keep (reached {S = S} past) r.source (id_at r.message) ≡ Some p) × (is_copy_of keep (message_at t r) (Some p) ≡ true) × (reply_at device All window keep start p ≡ reply_from device keep start r.message (first S keep past k))
+      go : Progress past (reached {S = S} past) k r → (p : Place S) × (origin All window keep (reached {S = S} past) (endpoint_of r.source) (id_at r.message) ≡ Some p) × (is_copy_of keep (message_at t r) (Some p) ≡ true) × (reply_at device All window keep start p ≡ reply_from device keep start r.message (first S keep past k))
       go (inl x) = (
         x.0,
-        found_in_window id_of window (id_at r.message) (recent All window keep (reached {S = S} past) r.source) (ids_arrived S keep past r.source) x.0 (inv.ids r.source) x.1 within,
+        found_in_window id_of window (id_at r.message) (recent All window keep (reached {S = S} past) (endpoint_of r.source)) (ids_arrived S keep past (endpoint_of r.source)) x.0 (inv.ids (endpoint_of r.source)) x.1 within,
         copy_of keep (message_at t r) x.0 (sym x.2) (let b = x.3 in let l = less in omega (arith, b, l, soon)),
         x.4,
       )
@@ -354,12 +354,12 @@ module _ {S : Type 0} (device : Rules S) (window keep lifetime : ℕ) (less : li
 
   -- a first delivery is no copy of anything
   pub is_new : (past : List Happening) (t k : ℕ) (r : Asked) → Inv past (reached {S = S} past) → InOrder past → AreApart S window keep lifetime past → InTime S window keep lifetime past → last_of past ≤ t → t < r.opening + lifetime → asked_at past k ≡ Some r → first S keep past k ≡ None → is_copy All window keep (reached {S = S} past) (message_at t r) ≡ false
-  is_new past t k r inv order apart_ in_time later soon e none = go (origin All window keep (reached {S = S} past) r.source (id_at r.message)) refl
+  is_new past t k r inv order apart_ in_time later soon e none = go (origin All window keep (reached {S = S} past) (endpoint_of r.source) (id_at r.message)) refl
     where
-      go : (o : Option (Place S)) → origin All window keep (reached {S = S} past) r.source (id_at r.message) ≡ o → is_copy_of keep (message_at t r) o ≡ false
+      go : (o : Option (Place S)) → origin All window keep (reached {S = S} past) (endpoint_of r.source) (id_at r.message) ≡ o → is_copy_of keep (message_at t r) o ≡ false
       go None is = refl
       go (Some p) is =
-          let w = inv.owned r.source (id_at r.message) p (found_in_front id_of (id_at r.message) window (recent All window keep (reached {S = S} past) r.source) p is) in
+          let w = inv.owned (endpoint_of r.source) (id_at r.message) p (found_in_front id_of (id_at r.message) window (recent All window keep (reached {S = S} past) (endpoint_of r.source)) p is) in
           let ne : k ≢ w.0 = λ same. let x : Some w.2 ≡ None = sym w.6 ∙ ap (first S keep past) (sym same) ∙ none in cc in
           let before = opened_before past order w.0 w.1 w.3 in
           let mine = opened_before past order k r e in
@@ -368,11 +368,11 @@ module _ {S : Type 0} (device : Rules S) (window keep lifetime : ℕ) (less : li
           (λ (y : r.opening + 2 * lifetime ≤ w.1.opening). absurd (omega arith))
           (λ (y : w.1.opening + 2 * lifetime ≤ r.opening). ⊎_elim
           (λ (x : r.opening + lifetime ≤ last_of past). absurd (omega arith))
-          (λ (f : (j : ℕ) (q : Asked) → asked_at past j ≡ Some q → k ≢ j → q.source ≡ r.source → id_at q.message ≡ id_at r.message → q.opening + 2 * lifetime ≤ r.opening → IsFreeOf S window keep lifetime past r q).
+          (λ (f : (j : ℕ) (q : Asked) → asked_at past j ≡ Some q → k ≢ j → endpoint_of q.source ≡ endpoint_of r.source → id_at q.message ≡ id_at r.message → q.opening + 2 * lifetime ≤ r.opening → IsFreeOf S window keep lifetime past r q).
           ⊎_elim
           (λ (late : w.1.opening + 2 * keep ≤ r.opening). expired keep (message_at t r) p (let l = less in omega (arith, was, late, mine, l, later)))
           (λ (out : is_in_window S window keep past r ≡ false).
-          let there = number_in_window id_of window (id_at r.message) (recent All window keep (reached {S = S} past) r.source) (ids_arrived S keep past r.source) p (inv.ids r.source) is in
+          let there = number_in_window id_of window (id_at r.message) (recent All window keep (reached {S = S} past) (endpoint_of r.source)) (ids_arrived S keep past (endpoint_of r.source)) p (inv.ids (endpoint_of r.source)) is in
           absurd (let wrong : true ≡ false = sym there ∙ out in cc))
           (f w.0 w.1 w.3 ne w.4 w.5 y))
           (free_at S window keep lifetime past order apart_ in_time k r e none))

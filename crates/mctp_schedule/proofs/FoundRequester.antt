@@ -11,7 +11,7 @@ use Rattle.mctp_schedule.specs.Places.{side_at}
 use Rattle.mctp_schedule.specs.Requests.{Request}
 use Rattle.mctp_schedule.specs.Running.{IsRunning, IsSide}
 use Rattle.mctp_schedule.specs.Worlds.{BothEnds, World, time_now, world}
-use Rattle.schedule_text.specs.declared.step.Step.{Step}
+use Rattle.mctp_schedule.specs.Actions.{Step}
 use Rattle.mctp_schedule.proofs.HandedAnswerPackets.{asked_of, delivered, written}
 use Rattle.mctp_schedule.proofs.ListPlaces.{or_get}
 

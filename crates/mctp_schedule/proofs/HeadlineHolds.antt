@@ -1,7 +1,7 @@
 -- What a run reports of a timely schedule is the headline.
-use Rattle.std.proofs.Common.{◌≡◌, ℕ, true, false, List, [], ◌∷◌, ◌++◌, Option, Some, None, refl, sym, ap, subst, ◌∙◌, inr, arith}
+use Rattle.std.proofs.Common.{◌≡◌, ℕ, true, List, [], ◌∷◌, ◌++◌, Option, Some, None, refl, sym, ap, subst, ◌∙◌, inr, arith, ◌≢◌}
 use Rattle.std.specs.Prelude.{option_map, slice_get}
-use Rattle.pldm_wire.specs.Kinds.{TypeAndCommand}
+use Rattle.mctp_packet.specs.Ids.{IsEid}
 use Rattle.pldm_wire.specs.declared.restart_policy.RestartPolicy.TheVariants.{All}
 use Rattle.pldm_platform.specs.Changes.{made_of}
 use Rattle.pldm_responder.specs.Events.{is_busy}
@@ -23,11 +23,11 @@ use Rattle.mctp_schedule.specs.Requests.{Request as EndedRequest}
 use Rattle.mctp_schedule.specs.Running.{IsRunning}
 use Rattle.mctp_schedule.specs.Worlds.{NeverWentBack, BothEnds, world}
 use Rattle.mctp_schedule.specs.declared.entry.Entry.TheVariants.{Delivered, Sensed}
-use Rattle.schedule_text.specs.declared.step.Action.{Action}
-use Rattle.schedule_text.specs.declared.step.Action.TheVariants as actions
-use Rattle.schedule_text.specs.declared.step.Step.{Step}
+use Rattle.mctp_schedule.specs.Actions.{Action, AreOfKinds, Step}
+use Rattle.mctp_schedule.specs.Actions as actions
 use Rattle.mctp_schedule.proofs.CommandsPerformed.{performed_once_each}
 use Rattle.mctp_schedule.proofs.AnsweredWhereTaken.{sound_before}
+use Rattle.mctp_schedule.proofs.RestedRequesters.{first_there, never_anew}
 
 -- the laws of both halves
 pub record Halves {S : Type 0} (setting : BothEnds S) : Type 0 where
@@ -57,7 +57,7 @@ module _ {S : Type 0} (setting : BothEnds S) (laws : Halves setting) where
       (laws.delivery setting.eid setting.window setting.keep setting.pace.lifetime setting.start (world setting past).log moment k r (log_of (record { moment = moment; action = actions.Request k } ∷ past) s) is)
 
   entry_is : (past : List Step) (moment : ℕ) (action : Action) → IsTimelySchedule setting (record { moment = moment; action = action } ∷ past) → entry_of setting (world setting past) moment action ≡ entry_owes setting past moment action
-  entry_is past moment (actions.Open e command) s = refl
+  entry_is past moment (actions.Open e ask) s = refl
   entry_is past moment (actions.Tick e) s = refl
   entry_is past moment actions.Restart s = refl
   entry_is past moment (actions.Request k) s = delivery_is past moment k s (asked_at (world setting past).log k) refl
@@ -89,17 +89,21 @@ module _ {S : Type 0} (setting : BothEnds S) (laws : Halves setting) where
   }
 
 -- ---- a run discharges the premises
-module _ {P S : Type 0} (setting : BothEnds S) (past : List Step) (run : HeldRun P S) (running : IsRunning setting past run) (reads : (kind : TypeAndCommand) → setting.device.hands_on kind ≡ false) where
+module _ {P S : Type 0} (setting : BothEnds S) (past : List Step) (run : HeldRun P S) (running : IsRunning setting past run) (asks : AreOfKinds past) where
   is_sound : IsSound setting past
   is_sound = record {
     device = running.device.endpoint;
-    sources = λ k r is. let s = (running.sides r.source (running.opened k r is).source).2 in (s.endpoint, s.other);
+    sources = λ k r is.
+        let s = (running.sides r.source (running.opened k r is).source).2 in
+        let first = first_there r.source s.endpoint in
+        (subst IsEid (sym first) s.endpoint, subst (λ d. d ≢ setting.eid) (sym first) s.other);
     fit = running.fit;
     pace = record {
       within = let e = ap (λ (p : Pace). p.lifetime) running.pace in omega (arith, e);
       window = inr (ap (λ (p : Pace). p.lifetime) running.pace);
     };
-    reads = reads;
+    asks = asks;
+    rested = never_anew setting.keep (world setting past).log (λ k r is. let s = (running.sides r.source (running.opened k r is).source).2.endpoint.1 in omega (arith, s));
   }
 
   pub run_is_headline : Halves setting → (Performed : List Command → Type 0) → Performed (commands_performed S setting.window setting.keep (world setting past).log) → NeverWentBack past → run.journal.timely ≡ true

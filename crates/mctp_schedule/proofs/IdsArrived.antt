@@ -6,7 +6,7 @@ use Rattle.std.proofs.lemmas.Bool.{cases_Bool, and_parts, or_left, or_right, con
 use Rattle.pldm_wire.specs.Headers.{id_at}
 use Rattle.pldm_responder.specs.Events.{Came, Place, id_of, is_fresh, recent}
 use Rattle.mctp_schedule.specs.FirstArrivals.{is_first}
-use Rattle.mctp_schedule.specs.Logs.{Asked, Happening, Opened, Delivered, Sensed, WentDown, asked_at, message_at, reached}
+use Rattle.mctp_schedule.specs.Logs.{Asked, Happening, Opened, Delivered, Sensed, WentDown, asked_at, message_at, reached, endpoint_of}
 use Rattle.pldm_responder.specs.Recency.{of_number, without, renewed}
 use Rattle.pldm_responder.proofs.RecentFirst.{Apart, front_renewed as renewed_in_front, none_in_front, renewed_apart, renewed_in_map, renewed_keeps}
 use Rattle.mctp_schedule.specs.Timely.{with_first, ids_arrived}
@@ -51,10 +51,10 @@ ids_delivered S window keep past t k r source front e same =
     let place : Place S = record { before = reached {S = S} past; message = message_at t r } in
     let places = recent All window keep (reached {S = S} past) source in
     let ids = ids_arrived S keep past source in
-    subst (λ o. IsFront (map id_of (if r.source == source && is_fresh All window keep (reached {S = S} past) (message_at t r) then renewed id_of place places else places)) (with_first (is_first S keep past t k) o source ids)) (sym e)
-    (subst (λ b. IsFront (map id_of (if r.source == source && b then renewed id_of place places else places)) (if r.source == source && is_first S keep past t k then renewed (λ i. i) (id_at r.message) ids else ids)) (sym same)
-    (subst (λ xs. IsFront xs (if r.source == source && is_first S keep past t k then renewed (λ i. i) (id_at r.message) ids else ids)) (sym (renewed_or_not (r.source == source && is_first S keep past t k) place places))
-    (front_renewed (r.source == source && is_first S keep past t k) (id_at r.message) (map id_of places) ids front)))
+    subst (λ o. IsFront (map id_of (if endpoint_of r.source == source && is_fresh All window keep (reached {S = S} past) (message_at t r) then renewed id_of place places else places)) (with_first (is_first S keep past t k) o source ids)) (sym e)
+    (subst (λ b. IsFront (map id_of (if endpoint_of r.source == source && b then renewed id_of place places else places)) (if endpoint_of r.source == source && is_first S keep past t k then renewed (λ i. i) (id_at r.message) ids else ids)) (sym same)
+    (subst (λ xs. IsFront xs (if endpoint_of r.source == source && is_first S keep past t k then renewed (λ i. i) (id_at r.message) ids else ids)) (sym (renewed_or_not (endpoint_of r.source == source && is_first S keep past t k) place places))
+    (front_renewed (endpoint_of r.source == source && is_first S keep past t k) (id_at r.message) (map id_of places) ids front)))
 
 -- what stands at the front, and is found there, is found in the window where its number is in the window
 pub found_in_window : {A : Type 0} (number : A → ℕ) (w n : ℕ) (xs : List A) (ys : List ℕ) (x : A) → IsFront (map number xs) ys → of_number number n xs ≡ Some x → list_any (λ i. i == n) (take w ys) ≡ true → of_number number n (take w xs) ≡ Some x
@@ -101,7 +101,7 @@ module _ (S : Type 0) (keep : ℕ) where
       go : (o : Option Asked) → Apart (λ i. i) (ids_arrived S keep past source) → Apart (λ i. i) (with_first (is_first S keep past t k) o source (ids_arrived S keep past source))
       go None before = before
       go (Some r) before =
-          cond_both (r.source == source && is_first S keep past t k) _ (ids_arrived S keep past source) (Apart (λ i. i))
+          cond_both (endpoint_of r.source == source && is_first S keep past t k) _ (ids_arrived S keep past source) (Apart (λ i. i))
           (λ _. renewed_apart (λ i. i) (id_at r.message) (ids_arrived S keep past source) before) (λ _. before)
 
 -- ---- what is out of the window
@@ -120,12 +120,12 @@ renewed_out w m n ids apart other out =
 
 -- or a first arrival of another source or instance ID, or none
 pub out_stays : (w : ℕ) (b : Bool) (o : Option Asked) (r : Asked) (ids : List ℕ) → Apart (λ i. i) ids
-    → ((q : Asked) → o ≡ Some q → b ≡ true → q.source ≡ r.source → id_at q.message ≡ id_at r.message → ⊥)
-    → list_any (λ i. i == id_at r.message) (take w ids) ≡ false → list_any (λ i. i == id_at r.message) (take w (with_first b o r.source ids)) ≡ false
+    → ((q : Asked) → o ≡ Some q → b ≡ true → endpoint_of q.source ≡ endpoint_of r.source → id_at q.message ≡ id_at r.message → ⊥)
+    → list_any (λ i. i == id_at r.message) (take w ids) ≡ false → list_any (λ i. i == id_at r.message) (take w (with_first b o (endpoint_of r.source) ids)) ≡ false
 out_stays w b None r ids apart never out = out
 out_stays w b (Some q) r ids apart never out =
-    cond_both (q.source == r.source && b) (renewed (λ i. i) (id_at q.message) ids) ids (λ (xs : List ℕ). list_any (λ i. i == id_at r.message) (take w xs) ≡ false)
+    cond_both (endpoint_of q.source == endpoint_of r.source && b) (renewed (λ i. i) (id_at q.message) ids) ids (λ (xs : List ℕ). list_any (λ i. i == id_at r.message) (take w xs) ≡ false)
     (λ on.
-    let parts = and_parts (q.source == r.source) b on in
-    renewed_out w (id_at q.message) (id_at r.message) ids apart (ne_eqb (id_at q.message) (id_at r.message) (never q refl parts.1 (eqb-true q.source r.source parts.0))) out)
+    let parts = and_parts (endpoint_of q.source == endpoint_of r.source) b on in
+    renewed_out w (id_at q.message) (id_at r.message) ids apart (ne_eqb (id_at q.message) (id_at r.message) (never q refl parts.1 (eqb-true (endpoint_of q.source) (endpoint_of r.source) parts.0))) out)
     (λ _. out)

@@ -3,7 +3,7 @@ use Rattle.std.proofs.Common.{◌≡◌, ℕ, Bool, true, false, List, [], ◌�
 use Rattle.std.specs.Prelude.{◌&&◌, ◌==◌, is_some, nat_lt, take, if◌then◌else◌}
 use Rattle.pldm_wire.specs.Headers.{id_at}
 use Rattle.mctp_schedule.specs.FirstArrivals.{is_first}
-use Rattle.mctp_schedule.specs.Logs.{Asked, Happening, Opened, Delivered, Sensed, WentDown, asked_at}
+use Rattle.mctp_schedule.specs.Logs.{Asked, Happening, Opened, Delivered, Sensed, WentDown, asked_at, endpoint_of}
 use Rattle.pldm_responder.specs.Recency.{of_number, renewed}
 use Rattle.pldm_responder.proofs.CopiesByTheRule.{found_where, in_front, in_front_renewed}
 use Rattle.mctp_schedule.specs.InWindow.{InWindowByTheRule, others_arrived, with_other}
@@ -26,8 +26,8 @@ module _ (S : Type 0) (keep : ℕ) where
       go : (o : Option Asked) → in_front (λ i. i) id (ids_arrived S keep past source) ≡ others_arrived S keep past source id → in_front (λ i. i) id (with_first (is_first S keep past t k) o source (ids_arrived S keep past source)) ≡ with_other (is_first S keep past t k) o source id (others_arrived S keep past source id)
       go None before = before
       go (Some r) before =
-          front_if (r.source == source && is_first S keep past t k) id (id_at r.message) (ids_arrived S keep past source)
-          ∙ ap (λ others. if r.source == source && is_first S keep past t k then (if id_at r.message == id then [] else renewed (λ i. i) (id_at r.message) others) else others) before
+          front_if (endpoint_of r.source == source && is_first S keep past t k) id (id_at r.message) (ids_arrived S keep past source)
+          ∙ ap (λ others. if endpoint_of r.source == source && is_first S keep past t k then (if id_at r.message == id then [] else renewed (λ i. i) (id_at r.message) others) else others) before
 
 some_if : (b : Bool) (o : Option ℕ) → is_some o ≡ true → is_some (if b then o else None) ≡ b
 some_if true o is = is
@@ -35,9 +35,9 @@ some_if false o is = refl
 
 pub in_window_by_the_rule : (S : Type 0) → InWindowByTheRule S
 in_window_by_the_rule S window keep past k r e came =
-    let ids = ids_arrived S keep past r.source in
+    let ids = ids_arrived S keep past (endpoint_of r.source) in
     let id = id_at r.message in
     any_is_found (λ i. i == id) (take window ids)
     ∙ ap is_some (found_where (λ i. i) window id ids)
     ∙ some_if (nat_lt (length (in_front (λ i. i) id ids)) window) (of_number (λ i. i) id ids) (arrived_in S keep past k r e came)
-    ∙ ap (λ others. nat_lt (length others) window) (others_are S keep past r.source id)
+    ∙ ap (λ others. nat_lt (length others) window) (others_are S keep past (endpoint_of r.source) id)

@@ -14,7 +14,7 @@ use Rattle.mctp_schedule.specs.Deliveries.{packets_of_outcome}
 use Rattle.mctp_schedule.specs.EntryColumns.{outcomes_in, outcomes_in_entry}
 use Rattle.mctp_schedule.specs.FirstArrivals.{has_arrived}
 use Rattle.mctp_schedule.specs.Journals.{Carried, packets_in}
-use Rattle.mctp_schedule.specs.Logs.{Asked, asked_at}
+use Rattle.mctp_schedule.specs.Logs.{Asked, asked_at, endpoint_of}
 use Rattle.mctp_schedule.specs.OncePerformed.{given, was_busy}
 use Rattle.mctp_schedule.specs.Running.{IsBefore, IsCarried, IsDevice, IsOpened, IsSide, busy_packets}
 use Rattle.mctp_schedule.specs.Worlds.{BothEnds, World, answer_packets, requests_of, timing_of, with_call}
@@ -58,9 +58,9 @@ module _ {S : Type 0} (setting : BothEnds S) where
   still_side w v now moment e side calls numbers asked later s = record {
     endpoint = s.endpoint;
     other = s.other;
-    left = subst (IsLeftBy e setting.eid (timing_of setting e) setting.pace (held_of side.station)) (sym calls) s.left;
+    left = subst (IsLeftBy (endpoint_of e) setting.eid (timing_of setting e) setting.pace (held_of side.station)) (sym calls) s.left;
     numbers = s.numbers ∙ sym numbers;
-    counted = ap (λ (xs : List ℕ). length xs) numbers ∙ s.counted ∙ ap (λ cs. (requests e setting.eid (timing_of setting e) setting.pace cs).count) (sym calls);
+    counted = ap (λ (xs : List ℕ). length xs) numbers ∙ s.counted ∙ ap (λ cs. (requests (endpoint_of e) setting.eid (timing_of setting e) setting.pace cs).count) (sym calls);
     numbered = λ own k here.
         let q = s.numbered own k (sym (ap (λ xs. slice_get xs own) numbers) ∙ here) in
         (q.0, asked k q.0 q.1, q.2, q.3);

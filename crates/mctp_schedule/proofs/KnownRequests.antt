@@ -1,22 +1,21 @@
--- Each request of the log is the one of its number at its requester, with the message of the command that was opened,
+-- Each request of the log is the one of its number at its requester, with the message that asks for what was opened,
 -- and no two are the same one. The log grows by one happening at most.
 use Rattle.std.proofs.Common.{◌≡◌, ◌≢◌, ◌⊎◌, ℕ, ◌<◌, ◌≤◌, List, [], ◌∷◌, Option, Some, None, Bool, true, false, Result, Ok, Err, refl, sym, ap, ◌∙◌, subst, inl, inr, ⊎_elim, arith, eqb-true, eq-eqb}
 use Rattle.std.specs.Prelude.{◌==◌, if◌then◌else◌}
 use Rattle.std.proofs.lemmas.Bool.{ne_eqb, cond-true, cond-false}
 use Rattle.mctp_packet.specs.Packets.{Packet}
 use Rattle.mctp_packet.specs.declared.reason.Reason.{Reason}
-use Rattle.pldm_wire.specs.declared.command.Command.{Command}
+use Rattle.pldm_wire.specs.Kinds.{IsKind}
 use Rattle.pldm_requester.specs.Arrivals.{Arrival, Drop, Part, Answer}
-use Rattle.pldm_requester.specs.Asks.{Ask, ask_of}
-use Rattle.pldm_requester.specs.Calls.{Call, Open, OpenRequest, Tick, Receive, Request, Requests, accepts, after_call, answered_by, arrived, fed_by, fed_to, goes_to, new_request, opened, opened_for, passed, requests, with_request}
-use Rattle.pldm_requester.specs.Numbering.{message_of}
+use Rattle.pldm_requester.specs.Asks.{Ask}
+use Rattle.pldm_requester.specs.Calls.{Call, OpenRequest, Tick, Receive, Request, Requests, accepts, after_call, answered_by, arrived, fed_by, fed_to, goes_to, opened_for, passed, request_with, requests, with_request}
+use Rattle.pldm_requester.specs.Numbering.{message_with}
 use Rattle.pldm_requester.specs.declared.pace.Pace.{Pace}
 use Rattle.pldm_requester.specs.declared.timing.Timing.{Timing}
-use Rattle.mctp_schedule.specs.Logs.{Asked, Happening, Opened, Delivered, Sensed, WentDown, asked_at, count_of}
+use Rattle.mctp_schedule.specs.Logs.{Asked, Happening, Opened, Delivered, Sensed, WentDown, asked_at, count_of, endpoint_of}
 use Rattle.mctp_schedule.specs.Worlds.{BothEnds, World, asked_by, busy_packet, done, handed, log_opened, reply_packet, requests_of, source_of, timing_of, with_call, world}
-use Rattle.schedule_text.specs.declared.step.Action.{Action}
-use Rattle.schedule_text.specs.declared.step.Action.TheVariants as actions
-use Rattle.schedule_text.specs.declared.step.Step.{Step}
+use Rattle.mctp_schedule.specs.Actions.{Action, AreOfKinds, IsOfKind, Step}
+use Rattle.mctp_schedule.specs.Actions as actions
 use Rattle.mctp_schedule.proofs.FirstPerformed.{request_below, request_older, request_opened}
 
 -- ---- what was opened keeps what it asks
@@ -86,10 +85,10 @@ module _ {S : Type 0} (setting : BothEnds S) where
   GrowsByOne log now = (now ≡ log) ⊎ ((h : Happening) × (now ≡ h ∷ log))
 
   pub log_done : (w : World) (moment : ℕ) (action : Action) → GrowsByOne w.log (done setting w moment action).log
-  log_done w moment (actions.Open e command) = go (accepts (timing_of setting e).keep setting.pace (requests_of setting w e) moment)
+  log_done w moment (actions.Open e ask) = go (accepts (timing_of setting e).keep setting.pace (requests_of setting w e) moment)
     where
-      go : (b : Bool) → GrowsByOne w.log (if b then Opened (asked_by setting w moment e command) ∷ w.log else w.log)
-      go true = inr (Opened (asked_by setting w moment e command), refl)
+      go : (b : Bool) → GrowsByOne w.log (if b then Opened (asked_by setting w moment e ask) ∷ w.log else w.log)
+      go true = inr (Opened (asked_by setting w moment e ask), refl)
       go false = inl refl
   log_done w moment (actions.Tick e) = inl refl
   log_done w moment (actions.Request k) = inr (Delivered moment k, refl)
@@ -120,29 +119,31 @@ module _ {S : Type 0} (setting : BothEnds S) where
   -- ---- the request of its number at its requester
   pub record Known (w : World) (r : Asked) : Type 0 where
     pub within : r.own < (requests_of setting w r.source).count
-    pub command : Command
-    pub asks : ((requests_of setting w r.source).each r.own).ask ≡ ask_of command
-    pub message : r.message ≡ message_of r.own command
+    pub ask : Ask
+    pub asks : ((requests_of setting w r.source).each r.own).ask ≡ ask
+    pub message : r.message ≡ message_with r.own ask
+    pub kind : IsKind ask.kind
 
   pub record AllKnown (w : World) : Type 0 where
     pub known : (k : ℕ) (r : Asked) → asked_at w.log k ≡ Some r → Known w r
     pub distinct : (k i : ℕ) (r q : Asked) → asked_at w.log k ≡ Some r → asked_at w.log i ≡ Some q → r.source ≡ q.source → r.own ≡ q.own → k ≡ i
 
-  calls_keep : (calls : ℕ → List Call) (e : ℕ) (call : Call) (d : ℕ) → KeepsAsks (requests d setting.eid (timing_of setting d) setting.pace (calls d)) (requests d setting.eid (timing_of setting d) setting.pace (with_call calls e call d))
+  calls_keep : (calls : ℕ → List Call) (e : ℕ) (call : Call) (d : ℕ) → KeepsAsks (requests (endpoint_of d) setting.eid (timing_of setting d) setting.pace (calls d)) (requests (endpoint_of d) setting.eid (timing_of setting d) setting.pace (with_call calls e call d))
   calls_keep calls e call d = go (d == e)
     where
-      go : (b : Bool) → KeepsAsks (requests d setting.eid (timing_of setting d) setting.pace (calls d)) (requests d setting.eid (timing_of setting d) setting.pace (if b then call ∷ calls d else calls d))
-      go true = call_keeps d setting.eid (timing_of setting d) setting.pace (requests d setting.eid (timing_of setting d) setting.pace (calls d)) call
-      go false = same_keeps (requests d setting.eid (timing_of setting d) setting.pace (calls d))
+      go : (b : Bool) → KeepsAsks (requests (endpoint_of d) setting.eid (timing_of setting d) setting.pace (calls d)) (requests (endpoint_of d) setting.eid (timing_of setting d) setting.pace (if b then call ∷ calls d else calls d))
+      go true = call_keeps (endpoint_of d) setting.eid (timing_of setting d) setting.pace (requests (endpoint_of d) setting.eid (timing_of setting d) setting.pace (calls d)) call
+      go false = same_keeps (requests (endpoint_of d) setting.eid (timing_of setting d) setting.pace (calls d))
 
   still_known : (w : World) (e : ℕ) (call : Call) (log : List Happening) (r : Asked) → Known w r → Known (record { calls = with_call w.calls e call; log = log }) r
   still_known w e call log r m =
       let kept = calls_keep w.calls e call r.source in
       record {
         within = let x = kept.count in let y = m.within in omega arith;
-        command = m.command;
+        ask = m.ask;
         asks = kept.each r.own m.within ∙ m.asks;
         message = m.message;
+        kind = m.kind;
       }
 
   called_known : (w : World) (e : ℕ) (call : Call) → AllKnown w → AllKnown (record { calls = with_call w.calls e call; log = w.log })
@@ -154,27 +155,28 @@ module _ {S : Type 0} (setting : BothEnds S) where
 
   logged_known : (w : World) (log : List Happening) → ((k : ℕ) → asked_at log k ≡ asked_at w.log k) → AllKnown w → AllKnown (record { calls = w.calls; log = log })
   logged_known w log same a = record {
-    known = λ k r is. let m = a.known k r (sym (same k) ∙ is) in record { within = m.within; command = m.command; asks = m.asks; message = m.message };
+    known = λ k r is. let m = a.known k r (sym (same k) ∙ is) in record { within = m.within; ask = m.ask; asks = m.asks; message = m.message; kind = m.kind };
     distinct = λ k i r q x y. a.distinct k i r q (sym (same k) ∙ x) (sym (same i) ∙ y);
   }
 
-  new_known : (w : World) (moment e : ℕ) (command : Command) (log : List Happening) → accepts (timing_of setting e).keep setting.pace (requests_of setting w e) moment ≡ true → Known (record { calls = with_call w.calls e (Open moment command); log = log }) (asked_by setting w moment e command)
-  new_known w moment e command log accepted =
+  new_known : (w : World) (moment e : ℕ) (ask : Ask) → IsKind ask.kind → (log : List Happening) → accepts (timing_of setting e).keep setting.pace (requests_of setting w e) moment ≡ true → Known (record { calls = with_call w.calls e (OpenRequest moment ask); log = log }) (asked_by setting w moment e ask)
+  new_known w moment e ask kind log accepted =
       let a = requests_of setting w e in
-      let here : requests e setting.eid (timing_of setting e) setting.pace (with_call w.calls e (Open moment command) e) ≡ opened a moment command = ap (requests e setting.eid (timing_of setting e) setting.pace) (cond-true (e == e) (Open moment command ∷ w.calls e) (w.calls e) (eq-eqb e e refl)) ∙ cond-true (accepts (timing_of setting e).keep setting.pace a moment) (opened a moment command) a accepted in
-      let newest : ((opened a moment command).each a.count).ask ≡ ask_of command = ap (λ (r : Request). r.ask) (cond-true (a.count == a.count) (new_request moment command) (a.each a.count) (eq-eqb a.count a.count refl)) in
+      let here : requests (endpoint_of e) setting.eid (timing_of setting e) setting.pace (with_call w.calls e (OpenRequest moment ask) e) ≡ opened_for a moment ask = ap (requests (endpoint_of e) setting.eid (timing_of setting e) setting.pace) (cond-true (e == e) (OpenRequest moment ask ∷ w.calls e) (w.calls e) (eq-eqb e e refl)) ∙ cond-true (accepts (timing_of setting e).keep setting.pace a moment) (opened_for a moment ask) a accepted in
+      let newest : ((opened_for a moment ask).each a.count).ask ≡ ask = ap (λ (r : Request). r.ask) (cond-true (a.count == a.count) (request_with moment ask) (a.each a.count) (eq-eqb a.count a.count refl)) in
       record {
         within = subst (λ (b : Requests). a.count < b.count) (sym here) (omega arith);
-        command = command;
+        ask = ask;
         asks = ap (λ (b : Requests). (b.each a.count).ask) here ∙ newest;
         message = refl;
+        kind = kind;
       }
 
-  opened_known : (w : World) (moment e : ℕ) (command : Command) → AllKnown w → AllKnown (record { calls = with_call w.calls e (Open moment command); log = log_opened setting w moment e command })
-  opened_known w moment e command a = go (accepts (timing_of setting e).keep setting.pace (requests_of setting w e) moment) refl
+  opened_known : (w : World) (moment e : ℕ) (ask : Ask) → IsKind ask.kind → AllKnown w → AllKnown (record { calls = with_call w.calls e (OpenRequest moment ask); log = log_opened setting w moment e ask })
+  opened_known w moment e ask kind a = go (accepts (timing_of setting e).keep setting.pace (requests_of setting w e) moment) refl
     where
       new : Asked
-      new = asked_by setting w moment e command
+      new = asked_by setting w moment e ask
 
       apart : (q : Asked) → Known w q → q.source ≡ e → q.own ≡ (requests_of setting w e).count → ⊥
       apart q m s o = let below = m.within in let same = ap (λ d. (requests_of setting w d).count) s in absurd (omega (arith, below, same, o))
@@ -185,25 +187,25 @@ module _ {S : Type 0} (setting : BothEnds S) where
       distinct k i r q (inr x) (inl y) s o = absurd (apart r (a.known k r x.1) (s ∙ ap (λ (z : Asked). z.source) (sym y.1)) (o ∙ ap (λ (z : Asked). z.own) (sym y.1)))
       distinct k i r q (inr x) (inr y) s o = a.distinct k i r q x.1 y.1 s o
 
-      go : (b : Bool) → accepts (timing_of setting e).keep setting.pace (requests_of setting w e) moment ≡ b → AllKnown (record { calls = with_call w.calls e (Open moment command); log = if b then Opened new ∷ w.log else w.log })
-      go false refused = called_known w e (Open moment command) a
+      go : (b : Bool) → accepts (timing_of setting e).keep setting.pace (requests_of setting w e) moment ≡ b → AllKnown (record { calls = with_call w.calls e (OpenRequest moment ask); log = if b then Opened new ∷ w.log else w.log })
+      go false refused = called_known w e (OpenRequest moment ask) a
       go true accepted = record {
         known = λ k r is. ⊎_elim
-            (λ (x : (k ≡ count_of w.log) × (new ≡ r)). subst (Known (record { calls = with_call w.calls e (Open moment command); log = Opened new ∷ w.log })) x.1 (new_known w moment e command (Opened new ∷ w.log) accepted))
-            (λ (x : (k ≢ count_of w.log) × (asked_at w.log k ≡ Some r)). still_known w e (Open moment command) (Opened new ∷ w.log) r (a.known k r x.1))
+            (λ (x : (k ≡ count_of w.log) × (new ≡ r)). subst (Known (record { calls = with_call w.calls e (OpenRequest moment ask); log = Opened new ∷ w.log })) x.1 (new_known w moment e ask kind (Opened new ∷ w.log) accepted))
+            (λ (x : (k ≢ count_of w.log) × (asked_at w.log k ≡ Some r)). still_known w e (OpenRequest moment ask) (Opened new ∷ w.log) r (a.known k r x.1))
             (request_opened new w.log k r is);
         distinct = λ k i r q x y. distinct k i r q (request_opened new w.log k r x) (request_opened new w.log i q y);
       }
 
-  known_done : (w : World) (moment : ℕ) (action : Action) → AllKnown w → AllKnown (done setting w moment action)
-  known_done w moment (actions.Open e command) a = opened_known w moment e command a
-  known_done w moment (actions.Tick e) a = called_known w e (Tick moment) a
-  known_done w moment (actions.Request k) a = logged_known w (Delivered moment k ∷ w.log) (λ k. refl) a
-  known_done w moment (actions.Reply j k) a = handed_known w moment (source_of (asked_at w.log k)) (reply_packet setting w k j) a
-  known_done w moment (actions.Sense id value) a = logged_known w (Sensed moment id value ∷ w.log) (λ k. refl) a
-  known_done w moment actions.Restart a = logged_known w (WentDown moment ∷ w.log) (λ k. refl) a
-  known_done w moment (actions.Busy k) a = handed_known w moment (source_of (asked_at w.log k)) (busy_packet setting w k) a
+  known_done : (w : World) (moment : ℕ) (action : Action) → IsOfKind action → AllKnown w → AllKnown (done setting w moment action)
+  known_done w moment (actions.Open e ask) kind a = opened_known w moment e ask kind a
+  known_done w moment (actions.Tick e) kind a = called_known w e (Tick moment) a
+  known_done w moment (actions.Request k) kind a = logged_known w (Delivered moment k ∷ w.log) (λ k. refl) a
+  known_done w moment (actions.Reply j k) kind a = handed_known w moment (source_of (asked_at w.log k)) (reply_packet setting w k j) a
+  known_done w moment (actions.Sense id value) kind a = logged_known w (Sensed moment id value ∷ w.log) (λ k. refl) a
+  known_done w moment actions.Restart kind a = logged_known w (WentDown moment ∷ w.log) (λ k. refl) a
+  known_done w moment (actions.Busy k) kind a = handed_known w moment (source_of (asked_at w.log k)) (busy_packet setting w k) a
 
-  pub all_known : (steps : List Step) → AllKnown (world setting steps)
-  all_known [] = record { known = λ k r is. absurd (cc); distinct = λ k i r q is. absurd (cc) }
-  all_known (step ∷ past) = known_done (world setting past) step.moment step.action (all_known past)
+  pub all_known : (steps : List Step) → AreOfKinds steps → AllKnown (world setting steps)
+  all_known [] kinds = record { known = λ k r is. absurd (cc); distinct = λ k i r q is. absurd (cc) }
+  all_known (step ∷ past) kinds = known_done (world setting past) step.moment step.action kinds.0 (all_known past kinds.1)

@@ -42,11 +42,13 @@ pub mod PacedLogs
 pub mod PremiseTests
 pub mod RepliesAreTaken
 pub mod ReportedRequests
+pub mod RestedRequesters
 pub mod RowsOfReplies
 pub mod RunsBegin
 pub mod SameOverAnyState
 pub mod SameWorlds
 pub mod SourcesOfRequests
+pub mod SpelledAsks
 pub mod StepsOnRequests
 pub mod TimelyLogs
 pub mod TimelyTests

@@ -20,14 +20,14 @@ use Rattle.pldm_requester.specs.declared.results.Got.TheVariants as got
 use Rattle.pldm_requester.specs.declared.timing.Timing.{Timing}
 use Rattle.mctp_schedule.specs.HandedPackets.{got_from, got_of_busy, got_of_reply}
 use Rattle.mctp_schedule.specs.FirstArrivals.{order}
-use Rattle.mctp_schedule.specs.Logs.{Asked, asked_at}
+use Rattle.mctp_schedule.specs.Logs.{Asked, asked_at, endpoint_of}
 use Rattle.mctp_schedule.specs.Timely.{IsTimelyLog}
 use Rattle.mctp_schedule.specs.OncePerformed.{given, was_busy}
 use Rattle.mctp_schedule.specs.RequesterHalf.{AnsweredWasPerformed, AnsweredWhereTaken, BusyIsExpected, IsTimelySchedule, OwnAssembly, OwnDeliveries, ReplyIsExpected, ProgressIs, TakenOnce}
 use Rattle.mctp_schedule.specs.TakenReplies.{brought, busy_expected, busy_expected_to, came, completes, completes_for, got_by, if_waiting, is_waiting, part_count, reply_of, reply_expected, reply_expected_to, taken, way_to}
 use Rattle.mctp_schedule.specs.Worlds.{IsTimelyAction, BothEnds, TagIsOwn, World, answer_packets, busy_from, busy_packet, packet_of, reply_packet, source_of, timing_of, world}
-use Rattle.schedule_text.specs.declared.step.Action.TheVariants.{Reply, Busy}
-use Rattle.schedule_text.specs.declared.step.Step.{Step}
+use Rattle.mctp_schedule.specs.Actions.{Reply, Busy}
+use Rattle.mctp_schedule.specs.Actions.{Step}
 use Rattle.mctp_schedule.proofs.AnswerPacketOutcomes.{Lower, arrival_by, arrival_expected, busy_brings, busy_is, busy_is_one, mine, packet_is, performed_at, reads_back, reply_brings}
 use Rattle.mctp_schedule.proofs.DeliveriesExpected.{fresh_in_order_of_firsts}
 use Rattle.mctp_schedule.proofs.AnswerPacketsAtRequester.{bad_tag, comes_in, packet_past, packet_there}
@@ -63,7 +63,7 @@ module _ {S : Type 0} (setting : BothEnds S) (lower : Lower) where
 
   pub own_assembly : FedSinceItsOpening → OwnAssembly setting
   own_assembly since steps k r s is waits =
-      since r.source setting.eid (timing_of setting r.source) setting.pace ((world setting steps).calls r.source) r.own waits
+      since (endpoint_of r.source) setting.eid (timing_of setting r.source) setting.pace ((world setting steps).calls r.source) r.own waits
       ∙ own_deliveries steps k r s is waits
 
   pub answered_where_taken : AnsweredWhereTaken setting
@@ -114,7 +114,7 @@ module _ {S : Type 0} (setting : BothEnds S) (lower : Lower) where
     timing = timing_of setting r.source
 
     known : Known setting (world setting past) r
-    known = (all_known setting past).known k r is
+    known = (all_known setting past s.sound.asks).known k r is
 
     from : is_from_device setting.eid p ≡ true
     from = eq-eqb setting.eid setting.eid refl
@@ -122,12 +122,12 @@ module _ {S : Type 0} (setting : BothEnds S) (lower : Lower) where
     gives_bad_tag : is_waiting setting (world setting past) r ≡ false → got_from setting (world setting past) r.source (Some bytes) ≡ Some (got.Dropped BadTag)
     gives_bad_tag shut =
         ap (λ x. Some (got_of x))
-        (bad_tag r.source setting.eid timing setting.pace calls lower.found r.own known.within (own r is) p bytes (reads_back setting lower past (log_of past s) s.sound k r is message j bytes sent) from refl shut)
+        (bad_tag (endpoint_of r.source) setting.eid timing setting.pace calls lower.found r.own known.within (own r is) p bytes (reads_back setting lower past (log_of past s) s.sound k r is message j bytes sent) from refl shut)
 
     gives_arrival : (arrival : Arrival) → is_waiting setting (world setting past) r ≡ true → fed_arrival (mine setting lower past (log_of past s) s.sound k r is) r.own (next (came setting past k r) p) ≡ arrival → got_from setting (world setting past) r.source (Some bytes) ≡ Some (got_of arrival)
     gives_arrival arrival waits brings =
         ap (λ x. Some (got_of x))
-        (comes_in r.source setting.eid timing setting.pace calls lower.found r.own known.within (own r is) p bytes (reads_back setting lower past (log_of past s) s.sound k r is message j bytes sent) from refl waits
+        (comes_in (endpoint_of r.source) setting.eid timing setting.pace calls lower.found r.own known.within (own r is) p bytes (reads_back setting lower past (log_of past s) s.sound k r is message j bytes sent) from refl waits
         ∙ ap (λ fed. fed_arrival (mine setting lower past (log_of past s) s.sound k r is) r.own (next fed p)) ((all_of past s k r is).fed waits)
         ∙ brings)
 

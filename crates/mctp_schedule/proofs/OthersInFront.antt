@@ -11,7 +11,7 @@ use Rattle.pldm_responder.specs.Recency.{of_number, renewed, without}
 use Rattle.pldm_responder.proofs.CopiesByTheRule.{in_front, in_front_renewed}
 use Rattle.pldm_responder.proofs.RecentFirst.{another, dropped, found_later, renewed_finds, renewed_keeps, stays}
 use Rattle.mctp_schedule.specs.FirstArrivals.{arrives, earlier, first, is_first}
-use Rattle.mctp_schedule.specs.Logs.{Asked, Happening, Opened, Delivered, Sensed, WentDown, InOrder, asked_at, reached}
+use Rattle.mctp_schedule.specs.Logs.{Asked, Happening, Opened, Delivered, Sensed, WentDown, InOrder, asked_at, reached, endpoint_of}
 use Rattle.mctp_schedule.specs.Timely.{InTime, ids_arrived, with_first}
 use Rattle.mctp_schedule.proofs.FirstPerformed.{first_below, is_first_of, opened_before, request_below, request_older}
 
@@ -34,40 +34,40 @@ stays_in x m ids is = ⊎_elim
     (cases_Bool (m == x))
 
 -- none with number n: what stood before n still does
-still_before : (b : Bool) (o : Option Asked) (source n x : ℕ) (ids : List ℕ) → ((p : Asked) → o ≡ Some p → p.source ≡ source → b ≡ true → id_at p.message ≡ n → ⊥) → In x (before n ids) → In x (before n (with_first b o source ids))
+still_before : (b : Bool) (o : Option Asked) (source n x : ℕ) (ids : List ℕ) → ((p : Asked) → o ≡ Some p → endpoint_of p.source ≡ source → b ≡ true → id_at p.message ≡ n → ⊥) → In x (before n ids) → In x (before n (with_first b o source ids))
 still_before b None source n x ids never is = is
 still_before b (Some p) source n x ids never is =
-    subst (In x) (sym (front_if (p.source == source && b) n (id_at p.message) ids))
-    (cond_both (p.source == source && b) (if id_at p.message == n then [] else renewed (λ i. i) (id_at p.message) (before n ids)) (before n ids) (In x)
+    subst (In x) (sym (front_if (endpoint_of p.source == source && b) n (id_at p.message) ids))
+    (cond_both (endpoint_of p.source == source && b) (if id_at p.message == n then [] else renewed (λ i. i) (id_at p.message) (before n ids)) (before n ids) (In x)
     (λ on.
-    let parts = and_parts (p.source == source) b on in
-    let other = ne_eqb (id_at p.message) n (never p refl (eqb-true p.source source parts.0) parts.1) in
+    let parts = and_parts (endpoint_of p.source == source) b on in
+    let other = ne_eqb (id_at p.message) n (never p refl (eqb-true (endpoint_of p.source) source parts.0) parts.1) in
     subst (In x) (sym (cond-false (id_at p.message == n) [] (renewed (λ i. i) (id_at p.message) (before n ids)) other)) (stays_in x (id_at p.message) (before n ids) is))
     (λ _. is))
 
 -- the new one stands before n
-new_before : (p : Asked) (n : ℕ) (ids : List ℕ) → id_at p.message ≢ n → In (id_at p.message) (before n (with_first true (Some p) p.source ids))
+new_before : (p : Asked) (n : ℕ) (ids : List ℕ) → id_at p.message ≢ n → In (id_at p.message) (before n (with_first true (Some p) (endpoint_of p.source) ids))
 new_before p n ids ne =
-    let on = and_from (p.source == p.source) true (eq-eqb p.source p.source refl) refl in
-    subst (In (id_at p.message)) (sym (front_if (p.source == p.source && true) n (id_at p.message) ids))
-    (subst (In (id_at p.message)) (sym (cond-true (p.source == p.source && true) (if id_at p.message == n then [] else renewed (λ i. i) (id_at p.message) (before n ids)) (before n ids) on))
+    let on = and_from (endpoint_of p.source == endpoint_of p.source) true (eq-eqb (endpoint_of p.source) (endpoint_of p.source) refl) refl in
+    subst (In (id_at p.message)) (sym (front_if (endpoint_of p.source == endpoint_of p.source && true) n (id_at p.message) ids))
+    (subst (In (id_at p.message)) (sym (cond-true (endpoint_of p.source == endpoint_of p.source && true) (if id_at p.message == n then [] else renewed (λ i. i) (id_at p.message) (before n ids)) (before n ids) on))
     (subst (In (id_at p.message)) (sym (cond-false (id_at p.message == n) [] (renewed (λ i. i) (id_at p.message) (before n ids)) (ne_eqb (id_at p.message) n ne)))
     (ap is_some (renewed_finds (λ i. i) (id_at p.message) (before n ids)))))
 
 module _ (S : Type 0) (window keep lifetime : ℕ) (source n bound : ℕ) where
   -- no request with this instance ID can come from this moment on
   abbrev pub AreGone : List Happening → Type 0
-  AreGone log = (j : ℕ) (q : Asked) → asked_at log j ≡ Some q → q.source ≡ source → id_at q.message ≡ n → q.opening + lifetime ≤ bound
+  AreGone log = (j : ℕ) (q : Asked) → asked_at log j ≡ Some q → endpoint_of q.source ≡ source → id_at q.message ≡ n → q.opening + lifetime ≤ bound
 
   -- one more delivery
-  module _ (past : List Happening) (t m : ℕ) (order : InOrder (Delivered t m ∷ past)) (soon : (p : Asked) → asked_at past m ≡ Some p → t < p.opening + lifetime) (gone : AreGone past) (k : ℕ) (r : Asked) (e : asked_at past k ≡ Some r) (own : r.source ≡ source) (ne : id_at r.message ≢ n) (late : bound ≤ r.opening) where
+  module _ (past : List Happening) (t m : ℕ) (order : InOrder (Delivered t m ∷ past)) (soon : (p : Asked) → asked_at past m ≡ Some p → t < p.opening + lifetime) (gone : AreGone past) (k : ℕ) (r : Asked) (e : asked_at past k ≡ Some r) (own : endpoint_of r.source ≡ source) (ne : id_at r.message ≢ n) (late : bound ≤ r.opening) where
     abbrev ids : List ℕ
     ids = ids_arrived S keep past source
 
     abbrev busy : Bool
     busy = is_busy keep (reached {S = S} past) t
 
-    none_touches : (p : Asked) → asked_at past m ≡ Some p → p.source ≡ source → is_first S keep past t m ≡ true → id_at p.message ≡ n → ⊥
+    none_touches : (p : Asked) → asked_at past m ≡ Some p → endpoint_of p.source ≡ source → is_first S keep past t m ≡ true → id_at p.message ≡ n → ⊥
     none_touches p is s on i =
         let its = gone m p is s i in
         let in_time = soon p is in
@@ -102,7 +102,7 @@ module _ (S : Type 0) (window keep lifetime : ℕ) (source n bound : ℕ) where
   opened_before_it p past k r e None is came shown = absurd (let wrong : false ≡ true = ap is_some (sym is) ∙ came in cc)
   opened_before_it p past k r e (Some place) is came shown = shown (sym (request_older p past k (first_below S keep past k place is)) ∙ e) came
 
-  pub in_front_of : (log : List Happening) → InOrder log → InTime S window keep lifetime log → AreGone log → (k : ℕ) (r : Asked) → asked_at log k ≡ Some r → r.source ≡ source → id_at r.message ≢ n → bound ≤ r.opening
+  pub in_front_of : (log : List Happening) → InOrder log → InTime S window keep lifetime log → AreGone log → (k : ℕ) (r : Asked) → asked_at log k ≡ Some r → endpoint_of r.source ≡ source → id_at r.message ≢ n → bound ≤ r.opening
       → is_some (first S keep log k) ≡ true → In (id_at r.message) (before n (ids_arrived S keep log source))
   in_front_of [] o i gone k r e own ne late came = absurd (cc)
   in_front_of (Sensed _ _ _ ∷ past) o i gone k r e own ne late came = in_front_of past o.1 i gone k r e own ne late came

@@ -1,5 +1,5 @@
 -- Tests of the premises of the laws, so that a schedule that is written out meets them by computing.
-use Rattle.std.proofs.Common.{◌≡◌, ◌≢◌, ℕ, ◌+◌, ◌*◌, ◌≤◌, List, [], ◌∷◌, length, Option, Some, None, Ok, Err, Bool, true, false, refl, sym, ap, ◌∙◌, subst, ⊎_elim, arith, eq-eqb}
+use Rattle.std.proofs.Common.{◌≡◌, ◌≢◌, ℕ, ◌+◌, ◌*◌, ◌<◌, ◌≤◌, List, [], ◌∷◌, length, Option, Some, None, Ok, Err, Bool, true, false, refl, sym, ap, ◌∙◌, subst, ⊎_elim, arith, eq-eqb, eqb-true}
 use Rattle.std.specs.Prelude.{Result, not, ◌&&◌, ◌||◌, ◌==◌, is_ok, nat_le, nat_lt}
 use Rattle.std.specs.List.{AllByRecursion}
 use Rattle.std.proofs.lemmas.Bool.{and_parts, and_from, leb-true, ltb-true, not-true}
@@ -11,14 +11,17 @@ use Rattle.pldm_wire.specs.Requests as requests
 use Rattle.pldm_wire.specs.declared.restart_policy.RestartPolicy.TheVariants.{All}
 use Rattle.pldm_responder.specs.Performing.{Rules, performed, reply}
 use Rattle.pldm_responder.specs.Events.{is_fresh}
-use Rattle.mctp_schedule.specs.Logs.{Asked, Happening, Opened, Delivered, Sensed, WentDown, Apart, ComesLate, InOrder, asked_at, count_of, last_of, message_at, moment_of, reached}
+use Rattle.mctp_schedule.specs.Logs.{Asked, Happening, Opened, Delivered, Sensed, WentDown, Apart, ComesLate, InOrder, asked_at, count_of, last_of, message_at, moment_of, reached, endpoint_of, AreRested, ComesRested}
 use Rattle.mctp_schedule.specs.Timely.{ComesInTime, InTime, IsTimelyLog, is_in_window}
 use Rattle.mctp_schedule.specs.FirstArrivals.{has_arrived}
 use Rattle.mctp_schedule.specs.OncePerformed.{AreRequests, FitsPackets, RepliesFit}
-use Rattle.schedule_text.specs.Schedules.{AreDistinct, AreKnown, IsSchedule, NeverGoBack, is_known}
+use Rattle.schedule_text.specs.Schedules.{AreDistinct, AreKnown, IsSchedule, NeverGoBack}
+use Rattle.schedule_text.specs.Schedules.{is_known as is_known_text}
 use Rattle.mctp_schedule.specs.Worlds.{NeverWentBack, time_now}
 use Rattle.schedule_text.specs.declared.step.RequesterLine.{RequesterLine}
-use Rattle.schedule_text.specs.declared.step.Step.{Step}
+use Rattle.mctp_schedule.specs.Actions as actions
+use Rattle.mctp_schedule.specs.Actions.{Action, AreOfKinds, IsOfKind, Step, is_known}
+use Rattle.schedule_text.specs.declared.step.Step.{Step as TextStep}
 use Rattle.mctp_schedule.proofs.ApartByTime.{apart_by_time}
 use Rattle.mctp_schedule.proofs.FirstPerformed.{request_opened}
 
@@ -50,24 +53,52 @@ each_is_known lines (step ∷ past) t =
     let parts = and_parts (is_known lines step.action) (all_known lines past) t in
     (parts.0, each_is_known lines past parts.1)
 
+-- each request that is opened is of a PLDM type that there is
+abbrev pub is_of_kind : Action → Bool
+is_of_kind (actions.Open e ask) = nat_lt ask.kind.pldm_type 64
+is_of_kind _ = true
+
+abbrev pub all_of_kinds : List Step → Bool
+all_of_kinds [] = true
+all_of_kinds (step ∷ past) = is_of_kind step.action && all_of_kinds past
+
+of_kind : (action : Action) → is_of_kind action ≡ true → IsOfKind action
+of_kind (actions.Open e ask) t = ltb-true ask.kind.pldm_type 64 t
+of_kind (actions.Tick e) t = tt
+of_kind (actions.Request k) t = tt
+of_kind (actions.Reply j k) t = tt
+of_kind (actions.Busy k) t = tt
+of_kind (actions.Sense id value) t = tt
+of_kind actions.Restart t = tt
+
+pub are_of_kinds : (steps : List Step) → all_of_kinds steps ≡ true → AreOfKinds steps
+are_of_kinds [] t = tt
+are_of_kinds (step ∷ past) t =
+    let parts = and_parts (is_of_kind step.action) (all_of_kinds past) t in
+    (of_kind step.action parts.0, are_of_kinds past parts.1)
+
 -- the same where the oldest step stands first, as in a schedule
-abbrev pub goes_forward : ℕ → List Step → Bool
+abbrev pub goes_forward : ℕ → List TextStep → Bool
 goes_forward moment [] = true
 goes_forward moment (step ∷ steps) = nat_le moment step.moment && goes_forward step.moment steps
 
-never_go_back : (moment : ℕ) (steps : List Step) → goes_forward moment steps ≡ true → NeverGoBack moment steps
+never_go_back : (moment : ℕ) (steps : List TextStep) → goes_forward moment steps ≡ true → NeverGoBack moment steps
 never_go_back moment [] t = tt
 never_go_back moment (step ∷ steps) t =
     let parts = and_parts (nat_le moment step.moment) (goes_forward step.moment steps) t in
     (leb-true moment step.moment parts.0, never_go_back step.moment steps parts.1)
 
-are_known : (lines : List RequesterLine) (steps : List Step) → all_known lines steps ≡ true → AreKnown lines steps
+abbrev pub all_known_text : List RequesterLine → List TextStep → Bool
+all_known_text lines [] = true
+all_known_text lines (step ∷ steps) = is_known_text lines step.action && all_known_text lines steps
+
+are_known : (lines : List RequesterLine) (steps : List TextStep) → all_known_text lines steps ≡ true → AreKnown lines steps
 are_known lines [] t = tt
 are_known lines (step ∷ steps) t =
-    let parts = and_parts (is_known lines step.action) (all_known lines steps) t in
+    let parts = and_parts (is_known_text lines step.action) (all_known_text lines steps) t in
     (parts.0, are_known lines steps parts.1)
 
-pub is_schedule : (lines : List RequesterLine) (steps : List Step) → AreDistinct lines → goes_forward 0 steps ≡ true → all_known lines steps ≡ true → IsSchedule (record { requesters = lines; steps = steps })
+pub is_schedule : (lines : List RequesterLine) (steps : List TextStep) → AreDistinct lines → goes_forward 0 steps ≡ true → all_known_text lines steps ≡ true → IsSchedule (record { requesters = lines; steps = steps })
 is_schedule lines steps distinct forward known = record {
   in_order = never_go_back 0 steps forward;
   distinct = distinct;
@@ -88,7 +119,7 @@ is_in_order (newest ∷ past) t =
 -- r and q do not share a source and an instance ID, or r comes late
 abbrev late_after : ℕ → Asked → Asked → Bool
 late_after keep r q =
-    not (q.source == r.source && id_at q.message == id_at r.message) || nat_le (q.opening + 2 * keep) r.opening
+    not (endpoint_of q.source == endpoint_of r.source && id_at q.message == id_at r.message) || nat_le (q.opening + 2 * keep) r.opening
 
 abbrev late : ℕ → Asked → List Happening → Bool
 late keep r [] = true
@@ -106,7 +137,7 @@ comes_late keep r (Opened q ∷ past) t k p e s i =
     let parts = and_parts (late_after keep r q) (late keep r past) t in
     ⊎_elim
     (λ (x : (k ≡ count_of past) × (q ≡ p)). (
-    let pair = and_from (q.source == r.source) (id_at q.message == id_at r.message) (eq-eqb q.source r.source (ap (λ (o : Asked). o.source) x.1 ∙ s)) (eq-eqb (id_at q.message) (id_at r.message) (ap (λ (o : Asked). id_at o.message) x.1 ∙ i)) in
+    let pair = and_from (endpoint_of q.source == endpoint_of r.source) (id_at q.message == id_at r.message) (eq-eqb (endpoint_of q.source) (endpoint_of r.source) (ap (λ (o : Asked). endpoint_of o.source) x.1 ∙ s)) (eq-eqb (id_at q.message) (id_at r.message) (ap (λ (o : Asked). id_at o.message) x.1 ∙ i)) in
     subst (λ (o : Asked). o.opening + 2 * keep ≤ r.opening) x.1 (leb-true (q.opening + 2 * keep) r.opening (then_so _ _ parts.0 pair))
     ))
     (λ (x : (k ≢ count_of past) × (asked_at past k ≡ Some p)). comes_late keep r past parts.1 k p x.1 s i)
@@ -189,7 +220,7 @@ are_requests (WentDown _ ∷ past) t = are_requests past t
 
 -- ---- of their sources
 abbrev from_requester : ℕ → Asked → Bool
-from_requester device r = nat_le MIN_EID r.source && nat_le r.source MAX_EID && not (r.source == device)
+from_requester device r = nat_le MIN_EID (endpoint_of r.source) && nat_le (endpoint_of r.source) MAX_EID && not ((endpoint_of r.source) == device)
 
 abbrev pub all_from_requesters : ℕ → List Happening → Bool
 all_from_requesters device [] = true
@@ -198,13 +229,13 @@ all_from_requesters device (Delivered _ _ ∷ past) = all_from_requesters device
 all_from_requesters device (Sensed _ _ _ ∷ past) = all_from_requesters device past
 all_from_requesters device (WentDown _ ∷ past) = all_from_requesters device past
 
-is_from_requester : (device : ℕ) (r : Asked) → from_requester device r ≡ true → IsEid r.source × (r.source ≢ device)
+is_from_requester : (device : ℕ) (r : Asked) → from_requester device r ≡ true → IsEid (endpoint_of r.source) × ((endpoint_of r.source) ≢ device)
 is_from_requester device r t =
-    let parts = and_parts (nat_le MIN_EID r.source && nat_le r.source MAX_EID) (not (r.source == device)) t in
-    let ends = and_parts (nat_le MIN_EID r.source) (nat_le r.source MAX_EID) parts.0 in
-    ((leb-true MIN_EID r.source ends.0, leb-true r.source MAX_EID ends.1), λ same. absurd (let on = eq-eqb r.source device same in let off = not-true (r.source == device) parts.1 in let wrong : true ≡ false = sym on ∙ off in cc))
+    let parts = and_parts (nat_le MIN_EID (endpoint_of r.source) && nat_le (endpoint_of r.source) MAX_EID) (not ((endpoint_of r.source) == device)) t in
+    let ends = and_parts (nat_le MIN_EID (endpoint_of r.source)) (nat_le (endpoint_of r.source) MAX_EID) parts.0 in
+    ((leb-true MIN_EID (endpoint_of r.source) ends.0, leb-true (endpoint_of r.source) MAX_EID ends.1), λ same. absurd (let on = eq-eqb (endpoint_of r.source) device same in let off = not-true ((endpoint_of r.source) == device) parts.1 in let wrong : true ≡ false = sym on ∙ off in cc))
 
-pub sources_of : (device : ℕ) (log : List Happening) → all_from_requesters device log ≡ true → (k : ℕ) (r : Asked) → asked_at log k ≡ Some r → IsEid r.source × (r.source ≢ device)
+pub sources_of : (device : ℕ) (log : List Happening) → all_from_requesters device log ≡ true → (k : ℕ) (r : Asked) → asked_at log k ≡ Some r → IsEid (endpoint_of r.source) × ((endpoint_of r.source) ≢ device)
 sources_of device [] t k r e = absurd (cc)
 sources_of device (Delivered _ _ ∷ past) t k r e = sources_of device past t k r e
 sources_of device (Sensed _ _ _ ∷ past) t k r e = sources_of device past t k r e
@@ -212,7 +243,7 @@ sources_of device (WentDown _ ∷ past) t k r e = sources_of device past t k r e
 sources_of device (Opened q ∷ past) t k r e =
     let parts = and_parts (from_requester device q) (all_from_requesters device past) t in
     ⊎_elim
-    (λ (x : (k ≡ count_of past) × (q ≡ r)). subst (λ (o : Asked). IsEid o.source × (o.source ≢ device)) x.1 (is_from_requester device q parts.0))
+    (λ (x : (k ≡ count_of past) × (q ≡ r)). subst (λ (o : Asked). IsEid (endpoint_of o.source) × (endpoint_of o.source ≢ device)) x.1 (is_from_requester device q parts.0))
     (λ (x : (k ≢ count_of past) × (asked_at past k ≡ Some r)). sources_of device past parts.1 k r x.1)
     (request_opened q past k r e)
 
@@ -253,3 +284,47 @@ module _ {S : Type 0} (device : Rules S) (window keep : ℕ) (start : S) where
   replies_fit (Delivered moment k ∷ past) t =
       let parts = and_parts (reply_fits moment past (asked_at past k)) (all_fit past) t in
       (one_fits moment past (asked_at past k) parts.0, replies_fit past parts.1)
+
+-- a requester that begins anew rests first
+abbrev pub rests : ℕ → Asked → List Happening → Bool
+rests keep r [] = true
+rests keep r (Opened q ∷ past) =
+    (not (endpoint_of q.source == endpoint_of r.source) || (q.source == r.source || (nat_lt q.source r.source && nat_le (q.opening + 2 * keep) r.opening)))
+    && rests keep r past
+rests keep r (_ ∷ past) = rests keep r past
+
+abbrev pub all_rest : ℕ → List Happening → Bool
+all_rest keep [] = true
+all_rest keep (Opened r ∷ past) = rests keep r past && all_rest keep past
+all_rest keep (_ ∷ past) = all_rest keep past
+
+rests_by : (same own late : Bool) → (not same || (own || late)) ≡ true → same ≡ true → (own ≡ true → ⊥) → late ≡ true
+rests_by true true late t s apart = absurd (apart refl)
+rests_by true false true t s apart = refl
+rests_by true false false t s apart = absurd (cc)
+rests_by false own late t s apart = absurd (cc)
+
+comes_rested : (keep : ℕ) (r : Asked) (past : List Happening) → rests keep r past ≡ true → ComesRested keep r past
+comes_rested keep r [] t k q is s ne = absurd (cc)
+comes_rested keep r (Opened p ∷ past) t k q is s ne =
+    let parts = and_parts (not (endpoint_of p.source == endpoint_of r.source) || (p.source == r.source || (nat_lt p.source r.source && nat_le (p.opening + 2 * keep) r.opening))) (rests keep r past) t in
+    ⊎_elim
+    (λ (x : (k ≡ count_of past) × (p ≡ q)).
+    let at : endpoint_of p.source ≡ endpoint_of r.source = ap (λ (o : Asked). endpoint_of o.source) x.1 ∙ s in
+    let late = rests_by (endpoint_of p.source == endpoint_of r.source) (p.source == r.source) (nat_lt p.source r.source && nat_le (p.opening + 2 * keep) r.opening) parts.0 (eq-eqb (endpoint_of p.source) (endpoint_of r.source) at) (λ own. ne (ap (λ (o : Asked). o.source) (sym x.1) ∙ eqb-true p.source r.source own)) in
+    let both = and_parts (nat_lt p.source r.source) (nat_le (p.opening + 2 * keep) r.opening) late in
+    subst (λ (o : Asked). (o.source < r.source) × (o.opening + 2 * keep ≤ r.opening)) x.1 (ltb-true p.source r.source both.0, leb-true (p.opening + 2 * keep) r.opening both.1))
+    (λ (x : (k ≢ count_of past) × (asked_at past k ≡ Some q)). comes_rested keep r past parts.1 k q x.1 s ne)
+    (request_opened p past k q is)
+comes_rested keep r (Delivered moment n ∷ past) t k q is s ne = comes_rested keep r past t k q is s ne
+comes_rested keep r (Sensed moment id value ∷ past) t k q is s ne = comes_rested keep r past t k q is s ne
+comes_rested keep r (WentDown moment ∷ past) t k q is s ne = comes_rested keep r past t k q is s ne
+
+pub are_rested : (keep : ℕ) (log : List Happening) → all_rest keep log ≡ true → AreRested keep log
+are_rested keep [] t = tt
+are_rested keep (Opened r ∷ past) t =
+    let parts = and_parts (rests keep r past) (all_rest keep past) t in
+    (comes_rested keep r past parts.0, are_rested keep past parts.1)
+are_rested keep (Delivered moment n ∷ past) t = are_rested keep past t
+are_rested keep (Sensed moment id value ∷ past) t = are_rested keep past t
+are_rested keep (WentDown moment ∷ past) t = are_rested keep past t

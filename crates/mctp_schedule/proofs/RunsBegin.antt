@@ -1,6 +1,6 @@
 -- What a run holds before its first step, and that each step may come after those before it.
 use Rattle.std.proofs.Common.{◌≡◌, ℕ, ◌≤◌, true, List, [], ◌∷◌, ◌++◌, length, refl, sym, ap, subst, ◌∙◌, arith}
-use Rattle.std.specs.Prelude.{reverse, slice_get}
+use Rattle.std.specs.Prelude.{find, reverse, slice_get}
 use Rattle.std.proofs.lemmas.List.{reverse-append}
 use Rattle.pldm_wire.specs.declared.restart_policy.RestartPolicy.TheVariants.{All}
 use Rattle.mctp_packet.specs.Ids.{IsEid}
@@ -12,16 +12,22 @@ use Rattle.pldm_requester.specs.Slots.{held_of}
 use Rattle.pldm_requester.specs.Pacing.{at_default}
 use Rattle.pldm_requester.specs.Steps as requester_held
 use Rattle.pldm_requester.specs.Steps.{paced_at_first}
+use Rattle.mctp_schedule.specs.Logs.{endpoint_of}
 use Rattle.mctp_schedule.specs.ArrivedIds.{ids_at}
 use Rattle.mctp_schedule.specs.Askers.{Side}
 use Rattle.mctp_schedule.specs.HeldRuns.{HeldRun}
 use Rattle.mctp_schedule.specs.Places.{BeginEach, Begins}
 use Rattle.mctp_schedule.specs.Running.{IsRunning, IsSide, MayCome}
-use Rattle.schedule_text.specs.Schedules.{AreKnown, NeverGoBack, is_known}
-use Rattle.mctp_schedule.specs.Worlds.{BothEnds, time_now, timing_of, world}
+use Rattle.schedule_text.specs.Schedules.{AreKnown, NeverGoBack, is_known, is_requester}
+use Rattle.mctp_schedule.specs.Worlds.{BothEnds, time_now, timing_from, timing_of, world}
+use Rattle.mctp_schedule.proofs.RestedRequesters.{first_there}
 use Rattle.mctp_schedule.proofs.TimelyLogs.{keep_is}
 use Rattle.mctp_schedule.specs.declared.journal.Journal.{Journal}
 use Rattle.schedule_text.specs.declared.step.RequesterLine.{RequesterLine}
+use Rattle.mctp_schedule.specs.Actions.{as_action, as_step, as_steps}
+use Rattle.mctp_schedule.specs.Actions as actions
+use Rattle.schedule_text.specs.declared.step.Action.{Action}
+use Rattle.schedule_text.specs.declared.step.Action.TheVariants as text
 use Rattle.schedule_text.specs.declared.step.Step.{Step}
 
 -- a journal of no step
@@ -66,9 +72,11 @@ begins setting run times window paced eid device_new device_same new same held e
       left =
           let timing = timing_of setting e in
           let goes : setting.pace ≡ at_default timing.keep = paced ∙ ap at_default (sym (keep_is setting e)) in
-          same e setting.eid timing setting.pace (held_of s.station) (paced_at_first e setting.eid timing setting.pace) []
-          (subst (λ pace. requester_held.IsHeld (held_of s.station) (paced_at_first e setting.eid timing pace)) (sym goes) b.held)
-          (new e setting.eid timing setting.pace);
+          let first = first_there e b.endpoint in
+          same (endpoint_of e) setting.eid timing setting.pace (held_of s.station) (paced_at_first (endpoint_of e) setting.eid timing setting.pace) []
+          (subst (λ pace. requester_held.IsHeld (held_of s.station) (paced_at_first (endpoint_of e) setting.eid timing pace)) (sym goes)
+          (subst (λ d. requester_held.IsHeld (held_of s.station) (requester_held.held_at_first d setting.eid (timing_from setting.keep (find (is_requester d) setting.requesters)))) (sym first) b.held))
+          (new (endpoint_of e) setting.eid timing setting.pace);
       numbers = b.numbers;
       counted = refl;
       numbered = λ own k is. absurd (cc);
@@ -76,8 +84,8 @@ begins setting run times window paced eid device_new device_same new same held e
     }
 
 -- ---- the steps so far, and one more
-pub done_more : (done : List Step) (step : Step) → reverse (done ++ step ∷ []) ≡ step ∷ reverse done
-done_more done step = reverse-append done (step ∷ [])
+pub done_more : (done : List Step) (step : Step) → as_steps (reverse (done ++ step ∷ [])) ≡ as_step step ∷ as_steps (reverse done)
+done_more done step = ap (λ steps. as_steps steps) (reverse-append done (step ∷ []))
 
 abbrev time_or : ℕ → List Step → ℕ
 time_or moment [] = moment
@@ -104,15 +112,24 @@ time_reversed : (moment : ℕ) (steps : List Step) → time_or moment (reverse s
 time_reversed moment [] = refl
 time_reversed moment (step ∷ steps) = ap (time_or moment) (reverse-append (step ∷ []) steps) ∙ time_last moment (reverse steps) step ∙ time_reversed step.moment steps
 
-time_is : (steps : List Step) → time_now steps ≡ time_or 0 steps
+time_is : (steps : List Step) → time_now (as_steps steps) ≡ time_or 0 steps
 time_is [] = refl
 time_is (step ∷ steps) = refl
 
-pub may_come : (requesters : List RequesterLine) (steps done rest : List Step) (step : Step) → steps ≡ done ++ step ∷ rest → NeverGoBack 0 steps → AreKnown requesters steps → MayCome requesters (reverse done) step
+same_known : (requesters : List RequesterLine) (action : Action) → actions.is_known requesters (as_action action) ≡ is_known requesters action
+same_known requesters (text.Open e command) = refl
+same_known requesters (text.Tick e) = refl
+same_known requesters (text.Request k) = refl
+same_known requesters (text.Reply j k) = refl
+same_known requesters (text.Sense id value) = refl
+same_known requesters text.Restart = refl
+same_known requesters (text.Busy k) = refl
+
+pub may_come : (requesters : List RequesterLine) (steps done rest : List Step) (step : Step) → steps ≡ done ++ step ∷ rest → NeverGoBack 0 steps → AreKnown requesters steps → MayCome requesters (as_steps (reverse done)) (as_step step)
 may_come requesters steps done rest step all order known = record {
   later =
       let t = time_is (reverse done) ∙ time_reversed 0 done in
       let l = in_order_after 0 done rest step (subst (NeverGoBack 0) all order) in
       omega (arith, t, l);
-  known = known_after requesters done rest step (subst (AreKnown requesters) all known);
+  known = same_known requesters step.action ∙ known_after requesters done rest step (subst (AreKnown requesters) all known);
 }

@@ -5,7 +5,7 @@ use Rattle.std.specs.Prelude.{not, nat_lt, bytes_eq, is_some, ◌&&◌, ◌==◌
 use Rattle.std.specs.List.{take-map, list_any}
 use Rattle.pldm_wire.specs.Headers.{id_at}
 use Rattle.pldm_responder.specs.Events.{Message, Event, Came, Place, is_busy, is_copy, is_copy_of, is_fresh, origin, busy_until, id_of, recent}
-use Rattle.mctp_schedule.specs.Logs.{Asked, Happening, Opened, Delivered, Sensed, WentDown, asked_at, message_at, with_reached, reached}
+use Rattle.mctp_schedule.specs.Logs.{Asked, Happening, Opened, Delivered, Sensed, WentDown, asked_at, message_at, with_reached, reached, endpoint_of}
 use Rattle.mctp_schedule.specs.FirstArrivals.{arrives, earlier, first, is_first}
 use Rattle.pldm_responder.specs.Recency.{of_number, renewed}
 use Rattle.pldm_responder.proofs.RecentFirst.{found_in_map, renewed_in_map}
@@ -138,7 +138,7 @@ module _ (A B : Type 0) (window keep : ℕ) where
     λ r e. record {
       soon = (i.0 r e).soon;
       in_window = λ came.
-          ap (λ ids. list_any (λ id. id == id_at r.message) (take window ids)) (sym (same_ids past r.source))
+          ap (λ ids. list_any (λ id. id == id_at r.message) (take window ids)) (sym (same_ids past (endpoint_of r.source)))
           ∙ (i.0 r e).in_window (ap is_some (same_first A B keep past k) ∙ came);
     },
     same_in_time lifetime past i.1,
@@ -154,7 +154,7 @@ module _ (A B : Type 0) (window keep : ℕ) where
       (a.0 k q e s i).0,
       ⊎_elim
           (λ (late : q.opening + 2 * keep ≤ r.opening). inl late)
-          (λ (out : is_in_window A window keep past r ≡ false). inr (ap (λ ids. list_any (λ id. id == id_at r.message) (take window ids)) (sym (same_ids past r.source)) ∙ out))
+          (λ (out : is_in_window A window keep past r ≡ false). inr (ap (λ ids. list_any (λ id. id == id_at r.message) (take window ids)) (sym (same_ids past (endpoint_of r.source))) ∙ out))
           (a.0 k q e s i).1,
     ),
     same_apart lifetime past a.1,

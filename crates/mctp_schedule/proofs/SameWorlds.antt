@@ -7,9 +7,9 @@ use Rattle.mctp_schedule.specs.FirstArrivals.{arrives_at}
 use Rattle.mctp_schedule.specs.Logs.{Asked, Happening, Opened, Delivered, Sensed, WentDown, asked_at, message_at, reached}
 use Rattle.mctp_schedule.specs.OncePerformed.{answered_to, given}
 use Rattle.mctp_schedule.specs.Worlds.{BothEnds, World, handed, packet_of, source_of, IsTimely, IsTimelyAction, done, reply_packet, world}
-use Rattle.schedule_text.specs.declared.step.Action.{Action}
-use Rattle.schedule_text.specs.declared.step.Action.TheVariants as actions
-use Rattle.schedule_text.specs.declared.step.Step.{Step}
+use Rattle.mctp_schedule.specs.Actions.{Action}
+use Rattle.mctp_schedule.specs.Actions as actions
+use Rattle.mctp_schedule.specs.Actions.{Step}
 use Rattle.mctp_schedule.specs.Laws.{AllIdsAreNoWindow}
 use Rattle.mctp_schedule.proofs.AllIdsInTime.{always_in_window}
 use Rattle.mctp_schedule.specs.EachId as each_id
@@ -35,7 +35,7 @@ module _ {S : Type 0} (setting : BothEnds S) (alike : AllIdsPerformAlike setting
   same_packet w k j = ap (λ m. packet_of setting (asked_at w.log k) m j) (same_given setting.device alike setting.window setting.keep setting.start wide w.log k)
 
   same_done : (w : World) (moment : ℕ) (action : Action) → done setting w moment action ≡ each_id.done setting w moment action
-  same_done w moment (actions.Open e command) = refl
+  same_done w moment (actions.Open e ask) = refl
   same_done w moment (actions.Tick e) = refl
   same_done w moment (actions.Request k) = refl
   same_done w moment (actions.Reply j k) = ap (handed setting w moment (source_of (asked_at w.log k))) (same_packet w k j)
@@ -53,7 +53,7 @@ module _ {S : Type 0} (setting : BothEnds S) (alike : AllIdsPerformAlike setting
   action_from w moment (actions.Request k) h = λ r e. record { soon = h r e; in_window = always_in_window S setting.keep setting.window wide w.log k r e }
   action_from w moment (actions.Reply j k) h = λ bytes e. h bytes (sym (same_packet w k j) ∙ e)
   action_from w moment (actions.Busy k) h = h
-  action_from w moment (actions.Open e command) h = tt
+  action_from w moment (actions.Open e ask) h = tt
   action_from w moment (actions.Tick e) h = tt
   action_from w moment (actions.Sense id value) h = tt
   action_from w moment actions.Restart h = tt
@@ -62,7 +62,7 @@ module _ {S : Type 0} (setting : BothEnds S) (alike : AllIdsPerformAlike setting
   action_to w moment (actions.Request k) h = λ r e. (h r e).soon
   action_to w moment (actions.Reply j k) h = λ bytes e. h bytes (same_packet w k j ∙ e)
   action_to w moment (actions.Busy k) h = h
-  action_to w moment (actions.Open e command) h = tt
+  action_to w moment (actions.Open e ask) h = tt
   action_to w moment (actions.Tick e) h = tt
   action_to w moment (actions.Sense id value) h = tt
   action_to w moment actions.Restart h = tt

@@ -5,18 +5,17 @@ use Rattle.std.specs.Prelude.{◌||◌, ◌==◌, if◌then◌else◌}
 use Rattle.std.specs.List.{AllByRecursion}
 use Rattle.pldm_requester.specs.Calls.{accepts}
 use Rattle.mctp_schedule.specs.Logs.{Asked, Happening, Opened, asked_at, count_of}
-use Rattle.schedule_text.specs.Schedules.{has_requester, is_known}
+use Rattle.schedule_text.specs.Schedules.{has_requester}
 use Rattle.mctp_schedule.specs.Worlds.{BothEnds, World, asked_by, busy_packet, done, reply_packet, requests_of, source_of, timing_of, world}
 use Rattle.schedule_text.specs.declared.step.RequesterLine.{RequesterLine}
-use Rattle.schedule_text.specs.declared.step.Action.{Action}
-use Rattle.schedule_text.specs.declared.step.Action.TheVariants as actions
-use Rattle.schedule_text.specs.declared.step.Step.{Step}
+use Rattle.mctp_schedule.specs.Actions.{Action, Step, is_known}
+use Rattle.mctp_schedule.specs.Actions as actions
 use Rattle.mctp_schedule.proofs.FirstPerformed.{request_opened}
 use Rattle.mctp_schedule.proofs.KnownRequests.{handed_log}
 
 -- an action that opens a request does so at an endpoint of which P holds
 abbrev pub OpensAt : (ℕ → Type 0) → Action → Type 0
-OpensAt P (actions.Open e command) = P e
+OpensAt P (actions.Open e ask) = P e
 OpensAt P (actions.Tick e) = Unit {0}
 OpensAt P (actions.Request k) = Unit {0}
 OpensAt P (actions.Reply j k) = Unit {0}
@@ -33,15 +32,15 @@ module _ {S : Type 0} (setting : BothEnds S) (P : ℕ → Type 0) where
   Sources w = (k : ℕ) (r : Asked) → asked_at w.log k ≡ Some r → P r.source
 
   sources_done : (w : World) (moment : ℕ) (action : Action) → OpensAt P action → Sources w → Sources (done setting w moment action)
-  sources_done w moment (actions.Open e command) here s k r is = go (accepts (timing_of setting e).keep setting.pace (requests_of setting w e) moment) is
+  sources_done w moment (actions.Open e ask) here s k r is = go (accepts (timing_of setting e).keep setting.pace (requests_of setting w e) moment) is
     where
-      go : (b : Bool) → asked_at (if b then Opened (asked_by setting w moment e command) ∷ w.log else w.log) k ≡ Some r → P r.source
+      go : (b : Bool) → asked_at (if b then Opened (asked_by setting w moment e ask) ∷ w.log else w.log) k ≡ Some r → P r.source
       go false f = s k r f
       go true f =
           ⊎_elim
-          (λ (x : (k ≡ count_of w.log) × (asked_by setting w moment e command ≡ r)). subst (λ (q : Asked). P q.source) x.1 here)
+          (λ (x : (k ≡ count_of w.log) × (asked_by setting w moment e ask ≡ r)). subst (λ (q : Asked). P q.source) x.1 here)
           (λ (x : (k ≢ count_of w.log) × (asked_at w.log k ≡ Some r)). s k r x.1)
-          (request_opened (asked_by setting w moment e command) w.log k r f)
+          (request_opened (asked_by setting w moment e ask) w.log k r f)
   sources_done w moment (actions.Tick e) here s k r is = s k r is
   sources_done w moment (actions.Request i) here s k r is = s k r is
   sources_done w moment (actions.Sense id value) here s k r is = s k r is
@@ -66,7 +65,7 @@ module _ (P : ℕ → Type 0) where
       go false other rest k = rest k
 
   known_opens_at : (lines : List RequesterLine) → AllByRecursion (λ (line : RequesterLine). P line.eid) lines → (action : Action) → is_known lines action ≡ true → OpensAt P action
-  known_opens_at lines each (actions.Open e command) known = found_line e lines each known
+  known_opens_at lines each (actions.Open e ask) known = found_line e lines each known
   known_opens_at lines each (actions.Tick e) known = tt
   known_opens_at lines each (actions.Request k) known = tt
   known_opens_at lines each (actions.Reply j k) known = tt

@@ -5,14 +5,14 @@ use Rattle.std.proofs.lemmas.Bool.{and_parts, ne_eqb, cases_Bool, cases_eq, cond
 use Rattle.mctp_packet.specs.Packets.{Packet}
 use Rattle.mctp_packet.specs.Reading.{reading}
 use Rattle.mctp_packet.specs.declared.TheConstants.{TAGS}
-use Rattle.pldm_wire.specs.declared.command.Command.{Command}
+use Rattle.pldm_requester.specs.Asks.{Ask}
 use Rattle.pldm_requester.specs.Arrivals.{Arrival}
-use Rattle.pldm_requester.specs.Calls.{Call, Open, Tick, Receive, Request, Requests, accepts, after_call, arrived, is_from_device, is_open_at, new_request, opened, requests}
+use Rattle.pldm_requester.specs.Calls.{Call, OpenRequest, Tick, Receive, Request, Requests, accepts, after_call, arrived, is_from_device, is_open_at, request_with, opened_for, requests}
 use Rattle.pldm_requester.specs.Courses.{Course, Progress, Waiting, Answered, GaveUp, given_up, is_given_up, is_open, is_over, is_sent_again, is_waiting as waits, sent_again, ticked}
 use Rattle.pldm_requester.specs.Laws.{FoundOnItsTag}
 use Rattle.pldm_requester.specs.Numbering.{tag_of}
 use Rattle.pldm_requester.specs.declared.timing.Timing.{Timing}
-use Rattle.mctp_schedule.specs.Logs.{Asked, Happening}
+use Rattle.mctp_schedule.specs.Logs.{Asked, Happening, endpoint_of}
 use Rattle.mctp_schedule.specs.Worlds.{BothEnds, World, requests_of, timing_of, with_call}
 use Rattle.mctp_schedule.proofs.AnswerPacketsAtRequester.{IsOf, Moved, nothing_moves, one_moves, put_here, put_other, with_arrival}
 use Rattle.mctp_schedule.proofs.KnownRequests.{Known}
@@ -41,37 +41,37 @@ ticked_kept timing moment x y fed course = go (is_given_up timing moment x.cours
 
 module _ {S : Type 0} (setting : BothEnds S) (w : World) (log : List Happening) where
   abbrev at : ℕ → List Call → Requests
-  at d calls = requests d setting.eid (timing_of setting d) setting.pace calls
+  at d calls = requests (endpoint_of d) setting.eid (timing_of setting d) setting.pace calls
 
   abbrev pub called : ℕ → Call → World
   called e call = record { calls = with_call w.calls e call; log = log }
 
-  pub called_here : (e : ℕ) (call : Call) → requests_of setting (called e call) e ≡ after_call e setting.eid (timing_of setting e) setting.pace (requests_of setting w e) call
+  pub called_here : (e : ℕ) (call : Call) → requests_of setting (called e call) e ≡ after_call (endpoint_of e) setting.eid (timing_of setting e) setting.pace (requests_of setting w e) call
   called_here e call = ap (at e) (cond-true (e == e) (call ∷ w.calls e) (w.calls e) (eq-eqb e e refl))
 
   pub called_other : (e : ℕ) (call : Call) (d : ℕ) → d ≢ e → requests_of setting (called e call) d ≡ requests_of setting w d
   called_other e call d ne = ap (at d) (cond-false (d == e) (call ∷ w.calls d) (w.calls d) (ne_eqb d e ne))
 
   -- an open
-  pub open_keeps : (moment e : ℕ) (command : Command) (r : Asked) → Known setting w r → Kept ((requests_of setting w r.source).each r.own) ((requests_of setting (called e (Open moment command)) r.source).each r.own)
-  open_keeps moment e command r known = go (r.source == e)
+  pub open_keeps : (moment e : ℕ) (ask : Ask) (r : Asked) → Known setting w r → Kept ((requests_of setting w r.source).each r.own) ((requests_of setting (called e (OpenRequest moment ask)) r.source).each r.own)
+  open_keeps moment e ask r known = go (r.source == e)
     where
       a : Requests
       a = requests_of setting w r.source
 
-      accepted : (b : Bool) → Kept (a.each r.own) ((if b then opened a moment command else a).each r.own)
-      accepted true = same_kept (a.each r.own) _ (put_other a.each a.count (new_request moment command) r.own (λ e. let below = known.within in absurd (omega (arith, e, below))))
+      accepted : (b : Bool) → Kept (a.each r.own) ((if b then opened_for a moment ask else a).each r.own)
+      accepted true = same_kept (a.each r.own) _ (put_other a.each a.count (request_with moment ask) r.own (λ e. let below = known.within in absurd (omega (arith, e, below))))
       accepted false = same_kept (a.each r.own) (a.each r.own) refl
 
-      go : (b : Bool) → Kept (a.each r.own) ((at r.source (if b then Open moment command ∷ w.calls r.source else w.calls r.source)).each r.own)
+      go : (b : Bool) → Kept (a.each r.own) ((at r.source (if b then OpenRequest moment ask ∷ w.calls r.source else w.calls r.source)).each r.own)
       go true = accepted (accepts (timing_of setting r.source).keep setting.pace a moment)
       go false = same_kept (a.each r.own) (a.each r.own) refl
 
-  pub opens_new : (moment e : ℕ) (command : Command) → accepts (timing_of setting e).keep setting.pace (requests_of setting w e) moment ≡ true → (requests_of setting (called e (Open moment command)) e).each (requests_of setting w e).count ≡ new_request moment command
-  opens_new moment e command ok =
+  pub opens_new : (moment e : ℕ) (ask : Ask) → accepts (timing_of setting e).keep setting.pace (requests_of setting w e) moment ≡ true → (requests_of setting (called e (OpenRequest moment ask)) e).each (requests_of setting w e).count ≡ request_with moment ask
+  opens_new moment e ask ok =
       let a = requests_of setting w e in
-      ap (λ (b : Requests). b.each a.count) (called_here e (Open moment command) ∙ cond-true (accepts (timing_of setting e).keep setting.pace a moment) (opened a moment command) a ok)
-      ∙ put_here a.each a.count (new_request moment command) a.count refl
+      ap (λ (b : Requests). b.each a.count) (called_here e (OpenRequest moment ask) ∙ cond-true (accepts (timing_of setting e).keep setting.pace a moment) (opened_for a moment ask) a ok)
+      ∙ put_here a.each a.count (request_with moment ask) a.count refl
 
   -- a tick
   pub tick_keeps : (moment e : ℕ) (r : Asked) → Kept ((requests_of setting w r.source).each r.own) ((requests_of setting (called e (Tick moment)) r.source).each r.own)
@@ -85,7 +85,7 @@ module _ {S : Type 0} (setting : BothEnds S) (w : World) (log : List Happening) 
       go false = same_kept (a.each r.own) (a.each r.own) refl
 
   -- ---- a packet on the way of the answers to request q, whose tag was not used again; it brings this where q is open
-  module _ (found : FoundOnItsTag) (q : Asked) (moment : ℕ) (known : Known setting w q) (near : (requests_of setting w q.source).count ≤ q.own + TAGS) (p : Packet) (bytes : List ℕ) (reads : reading (Some q.source) bytes ≡ Ok p) (from : is_from_device setting.eid p ≡ true) (tag : p.route.tag ≡ tag_of q.own) (arrival : Arrival) (own : IsOf q.own arrival) (brings : is_open_at (requests_of setting w q.source) q.own ≡ true → arrived q.source setting.eid (timing_of setting q.source) (requests_of setting w q.source) bytes ≡ arrival) where
+  module _ (found : FoundOnItsTag) (q : Asked) (moment : ℕ) (known : Known setting w q) (near : (requests_of setting w q.source).count ≤ q.own + TAGS) (p : Packet) (bytes : List ℕ) (reads : reading (Some (endpoint_of q.source)) bytes ≡ Ok p) (from : is_from_device setting.eid p ≡ true) (tag : p.route.tag ≡ tag_of q.own) (arrival : Arrival) (own : IsOf q.own arrival) (brings : is_open_at (requests_of setting w q.source) q.own ≡ true → arrived (endpoint_of q.source) setting.eid (timing_of setting q.source) (requests_of setting w q.source) bytes ≡ arrival) where
     abbrev then_at : World
     then_at = called q.source (Receive moment bytes)
 
@@ -98,10 +98,10 @@ module _ {S : Type 0} (setting : BothEnds S) (w : World) (log : List Happening) 
     moves : is_open_at before q.own ≡ true → Moved before (requests_of setting then_at q.source) q.own (with_arrival (before.each q.own) p arrival)
     moves opens =
         subst (λ (b : Requests). Moved before b q.own (with_arrival (before.each q.own) p arrival)) (sym (called_here q.source (Receive moment bytes)))
-        (one_moves q.source setting.eid timing setting.pace (w.calls q.source) found q.own known.within near p bytes reads from tag opens arrival own (brings opens))
+        (one_moves (endpoint_of q.source) setting.eid timing setting.pace (w.calls q.source) found q.own known.within near p bytes reads from tag opens arrival own (brings opens))
 
     rests : is_open_at before q.own ≡ false → requests_of setting then_at q.source ≡ before
-    rests shut = called_here q.source (Receive moment bytes) ∙ nothing_moves q.source setting.eid timing setting.pace (w.calls q.source) found q.own known.within near p bytes reads from tag shut
+    rests shut = called_here q.source (Receive moment bytes) ∙ nothing_moves (endpoint_of q.source) setting.eid timing setting.pace (w.calls q.source) found q.own known.within near p bytes reads from tag shut
 
     pub comes_to_it : is_open_at before q.own ≡ true → (requests_of setting then_at q.source).each q.own ≡ with_arrival (before.each q.own) p arrival
     comes_to_it opens = (moves opens).here

@@ -8,9 +8,9 @@ use Rattle.mctp_schedule.specs.FirstArrivals.{has_arrived}
 use Rattle.mctp_schedule.specs.Logs.{Asked, Happening, asked_at}
 use Rattle.mctp_schedule.specs.Worlds.{BothEnds, TagIsOwn, World, busy_packet, requests_of, tag_is_own, IsTimely, IsTimelyAction, comes_in_time, is_timely, is_timely_action, reply_packet, world}
 use Rattle.mctp_schedule.specs.Timely.{ComesInTime, is_in_window}
-use Rattle.schedule_text.specs.declared.step.Action.{Action}
-use Rattle.schedule_text.specs.declared.step.Action.TheVariants.{Open, Tick, Request, Reply, Sense, Restart, Busy}
-use Rattle.schedule_text.specs.declared.step.Step.{Step}
+use Rattle.mctp_schedule.specs.Actions.{Action}
+use Rattle.mctp_schedule.specs.Actions.{Open, Tick, Request, Reply, Sense, Restart, Busy}
+use Rattle.mctp_schedule.specs.Actions.{Step}
 
 same : (P : Asked → Type 0) (q : Asked) → P q → (r : Asked) → Some q ≡ Some r → P r
 same P q x r e = subst P (let y : q ≡ r = cc in y) x
@@ -60,7 +60,7 @@ module _ {S : Type 0} (setting : BothEnds S) where
   action_holds w moment (Request k) t = in_time_holds w.log moment k (asked_at w.log k) t
   action_holds w moment (Reply j k) t = packet_holds w k (reply_packet setting w k j) t
   action_holds w moment (Busy k) t = packet_holds w k (busy_packet setting w k) t
-  action_holds w moment (Open e command) t = tt
+  action_holds w moment (Open e ask) t = tt
   action_holds w moment (Tick e) t = tt
   action_holds w moment (Sense id value) t = tt
   action_holds w moment Restart t = tt
@@ -69,7 +69,7 @@ module _ {S : Type 0} (setting : BothEnds S) where
   action_tested w moment (Request k) h = in_time_tested w.log moment k (asked_at w.log k) h
   action_tested w moment (Reply j k) h = packet_tested w k (reply_packet setting w k j) h
   action_tested w moment (Busy k) h = packet_tested w k (busy_packet setting w k) h
-  action_tested w moment (Open e command) h = refl
+  action_tested w moment (Open e ask) h = refl
   action_tested w moment (Tick e) h = refl
   action_tested w moment (Sense id value) h = refl
   action_tested w moment Restart h = refl

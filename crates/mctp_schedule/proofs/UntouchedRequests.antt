@@ -13,9 +13,9 @@ use Rattle.mctp_schedule.specs.OncePerformed.{bytes_of, given_once, reply_from, 
 use Rattle.mctp_schedule.specs.RequesterHalf.{ProgressIs}
 use Rattle.mctp_schedule.specs.TakenReplies.{brought, came, completes_for, is_waiting, part_count, replies, reply_of, taken, takes, with_delivery}
 use Rattle.mctp_schedule.specs.Worlds.{BothEnds, World, requests_of, world}
-use Rattle.schedule_text.specs.declared.step.Action.{Action}
-use Rattle.schedule_text.specs.declared.step.Action.TheVariants as actions
-use Rattle.schedule_text.specs.declared.step.Step.{Step}
+use Rattle.mctp_schedule.specs.Actions.{Action}
+use Rattle.mctp_schedule.specs.Actions as actions
+use Rattle.mctp_schedule.specs.Actions.{Step}
 use Rattle.mctp_schedule.proofs.FirstPerformed.{first_stays}
 use Rattle.mctp_schedule.proofs.OneReplyGiven.{busy_opened, once_stays, reply_at_first}
 use Rattle.mctp_schedule.proofs.KnownRequests.{asked_stays_done, stays_done}
@@ -171,7 +171,7 @@ module _ {S : Type 0} (setting : BothEnds S) where
       cond-false (i == k && nat_lt j (part_count setting w k)) _ _ (and_right (i == k) _ (le-ltb j (part_count setting w k) (omega arith)))
   nothing_comes w k (actions.Busy i) js off =
       cond-false (i == k && was_busy S setting.keep w.log k) _ _ (and_right (i == k) _ (busy_opened setting.device setting.keep setting.start w.log k off))
-  nothing_comes w k (actions.Open e command) js off = refl
+  nothing_comes w k (actions.Open e ask) js off = refl
   nothing_comes w k (actions.Tick e) js off = refl
   nothing_comes w k (actions.Request i) js off = refl
   nothing_comes w k (actions.Sense id value) js off = refl
@@ -180,7 +180,7 @@ module _ {S : Type 0} (setting : BothEnds S) where
   nothing_taken : (past : List Step) (k : ℕ) (action : Action) → asked_at (Log past) k ≡ None → takes setting past k action ≡ false
   nothing_taken past k (actions.Reply j i) off = and_right (i == k) _ (ap (completes_for setting past k j) off)
   nothing_taken past k (actions.Busy i) off = refl
-  nothing_taken past k (actions.Open e command) off = refl
+  nothing_taken past k (actions.Open e ask) off = refl
   nothing_taken past k (actions.Tick e) off = refl
   nothing_taken past k (actions.Request i) off = refl
   nothing_taken past k (actions.Sense id value) off = refl

@@ -13,10 +13,10 @@ use Rattle.pldm_wire.specs.declared.command.Command.TheVariants.{GetTid}
 use Rattle.mctp_schedule.specs.Headline.{state_once}
 use Rattle.mctp_schedule.specs.RequesterHalf.{IsTimelySchedule}
 use Rattle.mctp_schedule.specs.Worlds.{BothEnds, is_timely, requests_of, world}
-use Rattle.schedule_text.specs.declared.step.Action.{Action}
-use Rattle.schedule_text.specs.declared.step.Action.TheVariants.{Open, Tick, Reply, Request}
-use Rattle.schedule_text.specs.declared.step.Step.{Step}
-use Rattle.mctp_schedule.proofs.PremiseTests.{all_fit, all_from_requesters, goes_on, never_went_back, replies_fit, sources_of}
+use Rattle.mctp_schedule.specs.Actions.{Action}
+use Rattle.mctp_schedule.specs.Actions.{open_for, Tick, Reply, Request}
+use Rattle.mctp_schedule.specs.Actions.{Step}
+use Rattle.mctp_schedule.proofs.PremiseTests.{all_fit, all_from_requesters, all_rest, are_of_kinds, are_rested, goes_on, never_went_back, replies_fit, sources_of}
 use Rattle.mctp_schedule.proofs.TimelyTests.{timely_is_tested}
 
 -- it tells how many commands it has performed
@@ -40,7 +40,7 @@ at moment action = record { moment = moment; action = action }
 
 abbrev opens : ℕ → ℕ → List Step → List Step
 opens moment zero past = past
-opens moment (suc n) past = at moment (Open 8 GetTid) ∷ opens moment n past
+opens moment (suc n) past = at moment (open_for 8 GetTid) ∷ opens moment n past
 
 -- what is open is given up, and all tags are used again
 abbrev round : ℕ → List Step → List Step
@@ -49,7 +49,7 @@ round moment past = opens moment 8 (at moment (Tick 8) ∷ past)
 -- request 0 comes, and is not answered; of the 31 after it the last one is; then its instance ID is free
 abbrev steps : List Step
 steps =
-    at 42 (Reply 0 32) ∷ at 41 (Request 32) ∷ at 40 (Open 8 GetTid) ∷ at 40 (Tick 8)
+    at 42 (Reply 0 32) ∷ at 41 (Request 32) ∷ at 40 (open_for 8 GetTid) ∷ at 40 (Tick 8)
     ∷ at 32 (Reply 0 31) ∷ at 31 (Request 31) ∷ round 30 (round 20 (round 10 (at 1 (Request 0) ∷ round 0 [])))
 
 all_opened : (requests_of paced (world paced steps) 8).count ≡ 33
@@ -79,6 +79,10 @@ fit : all_fit counting 1 1000 0 (world paced steps).log ≡ true
 unfolding request_of command_of response_of
 fit = refl
 
+rested : all_rest 1000 (world paced steps).log ≡ true
+unfolding request_of command_of response_of
+rested = refl
+
 pub is_met : IsTimelySchedule paced steps
 is_met = record {
   order = never_went_back steps goes;
@@ -88,6 +92,7 @@ is_met = record {
     sources = sources_of 9 (world paced steps).log sources;
     fit = replies_fit counting 1 1000 0 (world paced steps).log fit;
     pace = record { within = omega arith; window = inl (omega arith) };
-    reads = λ kind. refl;
+    asks = are_of_kinds steps refl;
+    rested = are_rested 1000 (world paced steps).log rested;
   };
 }

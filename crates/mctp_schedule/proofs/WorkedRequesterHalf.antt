@@ -22,9 +22,9 @@ use Rattle.pldm_requester.specs.declared.results.Got.TheVariants.{Dropped, Parti
 use Rattle.mctp_schedule.specs.HandedPackets.{got_of_reply, got_of_busy}
 use Rattle.mctp_schedule.specs.TakenReplies.{busy_expected, replies, reply_of, reply_expected, taken}
 use Rattle.mctp_schedule.specs.Worlds.{BothEnds, requests_of, world}
-use Rattle.schedule_text.specs.declared.step.Action.{Action}
-use Rattle.schedule_text.specs.declared.step.Action.TheVariants.{Open, Tick, Request, Reply, Sense, Restart, Busy}
-use Rattle.schedule_text.specs.declared.step.Step.{Step}
+use Rattle.mctp_schedule.specs.Actions.{Action}
+use Rattle.mctp_schedule.specs.Actions.{open_for, Tick, Request, Reply, Sense, Restart, Busy}
+use Rattle.mctp_schedule.specs.Actions.{Step}
 
 abbrev at : ℕ → Action → Step
 at moment action = record { moment = moment; action = action }
@@ -49,7 +49,7 @@ long = record {
 }
 
 abbrev asked : List Step
-asked = at 0 (Request 0) ∷ at 0 (Open 8 GetPdrRepositoryInfo) ∷ []
+asked = at 0 (Request 0) ∷ at 0 (open_for 8 GetPdrRepositoryInfo) ∷ []
 
 -- packets 1, 0, 0, 1 and 2 were delivered: one too early, one that came again
 abbrev in_turn : List Step
@@ -112,7 +112,7 @@ other_order : taken long (at 4 (Reply 3 0) ∷ at 3 (Reply 1 0) ∷ at 2 (Reply 
 unfolding request_of command_of response_of
 other_order = refl
 
-no_reply_before_it_arrives : reply_expected long (at 0 (Open 8 GetPdrRepositoryInfo) ∷ []) 0 0 ≡ None
+no_reply_before_it_arrives : reply_expected long (at 0 (open_for 8 GetPdrRepositoryInfo) ∷ []) 0 0 ≡ None
 unfolding request_of command_of response_of
 no_reply_before_it_arrives = refl
 
@@ -133,7 +133,7 @@ light = record {
 }
 
 abbrev set_40 : Action
-set_40 = Open 8 (SetNumericEffecterValue 1 (sized Uint8 (pos 40)))
+set_40 = open_for 8 (SetNumericEffecterValue 1 (sized Uint8 (pos 40)))
 
 abbrev a_retry : List Step
 a_retry = at 210 (Reply 0 0) ∷ at 200 (Request 0) ∷ at 200 (Tick 8) ∷ at 0 (Request 0) ∷ at 0 set_40 ∷ []
@@ -190,7 +190,7 @@ cut_row_is_not_taken = refl
 
 -- ---- one packet, and the same one again
 abbrev tid_asked : List Step
-tid_asked = at 0 (Request 0) ∷ at 0 (Open 8 GetTid) ∷ []
+tid_asked = at 0 (Request 0) ∷ at 0 (open_for 8 GetTid) ∷ []
 
 abbrev progress : {S : Type 0} → BothEnds S → List Step → ℕ → Progress
 progress setting steps n = ((requests_of setting (world setting steps) 8).each n).course.progress
@@ -224,8 +224,8 @@ gauge = record {
 
 abbrev two_readings : List Step
 two_readings =
-    at 10 (Request 1) ∷ at 10 (Open 8 (GetSensorReading 1 0)) ∷ at 10 (Request 0) ∷ at 5 (Sense 1 (pos 41)) ∷ at 0 (Request 0)
-    ∷ at 0 (Open 8 (GetSensorReading 1 0)) ∷ []
+    at 10 (Request 1) ∷ at 10 (open_for 8 (GetSensorReading 1 0)) ∷ at 10 (Request 0) ∷ at 5 (Sense 1 (pos 41)) ∷ at 0 (Request 0)
+    ∷ at 0 (open_for 8 (GetSensorReading 1 0)) ∷ []
 
 abbrev reading_of_first : List ℕ
 reading_of_first = 1 ∷ 0 ∷ 2 ∷ 17 ∷ 0 ∷ 0 ∷ 0 ∷ 0 ∷ 1 ∷ 1 ∷ 1 ∷ 40 ∷ []

@@ -22,9 +22,9 @@ use Rattle.mctp_schedule.specs.TakenReplies.{reply_of, reply_expected, taken}
 use Rattle.mctp_schedule.specs.Worlds.{BothEnds, is_timely, world}
 use Rattle.mctp_schedule.specs.declared.entry.Entry.{Entry}
 use Rattle.mctp_schedule.specs.declared.entry.Entry.TheVariants.{Nothing, Opened, Due, Delivered, Received, Sensed, Restarted}
-use Rattle.schedule_text.specs.declared.step.Action.{Action}
-use Rattle.schedule_text.specs.declared.step.Action.TheVariants.{Open, Tick, Request, Reply, Sense, Restart, Busy}
-use Rattle.schedule_text.specs.declared.step.Step.{Step}
+use Rattle.mctp_schedule.specs.Actions.{Action}
+use Rattle.mctp_schedule.specs.Actions.{open_for, Tick, Request, Reply, Sense, Restart, Busy}
+use Rattle.mctp_schedule.specs.Actions.{Step}
 use Rattle.mctp_schedule.proofs.ExampleDevice.{at, set_to, with_tries, with_values}
 
 abbrev setting : BothEnds Device
@@ -72,8 +72,8 @@ retry_reply = refl
 -- ---- a reading between a request and its copy: the copy has the answer of before
 abbrev a_reading : List Step
 a_reading =
-    at 20 (Reply 0 1) ∷ at 20 (Reply 0 0) ∷ at 10 (Request 1) ∷ at 10 (Open 8 (GetSensorReading 1 0)) ∷ at 10 (Request 0)
-    ∷ at 5 (Sense 1 (pos 41)) ∷ at 0 (Request 0) ∷ at 0 (Open 8 (GetSensorReading 1 0)) ∷ []
+    at 20 (Reply 0 1) ∷ at 20 (Reply 0 0) ∷ at 10 (Request 1) ∷ at 10 (open_for 8 (GetSensorReading 1 0)) ∷ at 10 (Request 0)
+    ∷ at 5 (Sense 1 (pos 41)) ∷ at 0 (Request 0) ∷ at 0 (open_for 8 (GetSensorReading 1 0)) ∷ []
 
 abbrev reading_message : ℕ → ℕ → List ℕ
 reading_message id value =
@@ -124,7 +124,7 @@ two_state = refl
 
 -- ---- an answer that comes twice is taken once
 abbrev twice_answered : List Step
-twice_answered = at 600 (Tick 8) ∷ at 0 (Reply 0 0) ∷ at 0 (Reply 0 0) ∷ at 0 (Request 0) ∷ at 0 (Open 8 GetTid) ∷ []
+twice_answered = at 600 (Tick 8) ∷ at 0 (Reply 0 0) ∷ at 0 (Reply 0 0) ∷ at 0 (Request 0) ∷ at 0 (open_for 8 GetTid) ∷ []
 
 twice_entries : entries_expected setting twice_answered
     ≡ Opened 0 ∷ fresh false (0x01 ∷ 0x08 ∷ 0x09 ∷ 0xc0 ∷ 0x01 ∷ 0x00 ∷ 0x00 ∷ 0x02 ∷ 0x00 ∷ 0x01 ∷ []) ∷ Received (got.Answered 0)
@@ -153,7 +153,7 @@ restart_state = refl
 
 -- ---- an answer of four packets: what each delivery of them gives, where they come out of order and again
 abbrev of_four : List Step
-of_four = at 0 (Request 0) ∷ at 0 (Open 8 (GetPdr 0 0 1 239 0)) ∷ []
+of_four = at 0 (Request 0) ∷ at 0 (open_for 8 (GetPdr 0 0 1 239 0)) ∷ []
 
 abbrev replies_after : List ℕ → List Step
 replies_after [] = of_four
@@ -185,12 +185,12 @@ four_answered = (refl, refl, refl)
 -- ---- a tag that is used again: a part of the first answer came before its request was given up, and is no part of the
 -- later one
 abbrev ask_for_record : Action
-ask_for_record = Open 8 (GetPdr 0 0 1 65535 0)
+ask_for_record = open_for 8 (GetPdr 0 0 1 65535 0)
 
 abbrev seven_opens : List Step → List Step
 seven_opens past =
-    at 600 (Open 8 GetTid) ∷ at 600 (Open 8 GetTid) ∷ at 600 (Open 8 GetTid) ∷ at 600 (Open 8 GetTid) ∷ at 600 (Open 8 GetTid)
-    ∷ at 600 (Open 8 GetTid) ∷ at 600 (Open 8 GetTid) ∷ past
+    at 600 (open_for 8 GetTid) ∷ at 600 (open_for 8 GetTid) ∷ at 600 (open_for 8 GetTid) ∷ at 600 (open_for 8 GetTid) ∷ at 600 (open_for 8 GetTid)
+    ∷ at 600 (open_for 8 GetTid) ∷ at 600 (open_for 8 GetTid) ∷ past
 
 abbrev tag_used_again : List Step
 tag_used_again =

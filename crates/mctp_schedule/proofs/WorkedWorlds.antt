@@ -17,9 +17,9 @@ use Rattle.mctp_schedule.specs.Logs.{count_of}
 use Rattle.mctp_schedule.specs.OncePerformed.{once}
 use Rattle.mctp_schedule.specs.PerformedCommands.{commands_once, commands_performed}
 use Rattle.mctp_schedule.specs.Worlds.{BothEnds, busy_packet, is_timely, reply_packet, requests_of, world}
-use Rattle.schedule_text.specs.declared.step.Action.{Action}
-use Rattle.schedule_text.specs.declared.step.Action.TheVariants.{Open, Tick, Request, Reply, Restart, Busy}
-use Rattle.schedule_text.specs.declared.step.Step.{Step}
+use Rattle.mctp_schedule.specs.Actions.{Action}
+use Rattle.mctp_schedule.specs.Actions.{open_for, Tick, Request, Reply, Restart, Busy}
+use Rattle.mctp_schedule.specs.Actions.{Step}
 
 abbrev at : ℕ → Action → Step
 at moment action = record { moment = moment; action = action }
@@ -36,7 +36,7 @@ setting = record {
 }
 
 abbrev set_40 : Action
-set_40 = Open 8 (SetNumericEffecterValue 1 (sized Uint8 (pos 40)))
+set_40 = open_for 8 (SetNumericEffecterValue 1 (sized Uint8 (pos 40)))
 
 abbrev progress : List Step → Progress
 progress steps = ((requests_of setting (world setting steps) 8).each 0).course.progress
@@ -140,8 +140,8 @@ busy_deliveries_perform_none = refl
 -- a request that the light refuses and one that only reads are performed too, each once, the later one progress first
 abbrev refused_and_read : List Step
 refused_and_read =
-    at 9 (Request 1) ∷ at 8 (Request 0) ∷ at 7 (Request 1) ∷ at 6 (Open 8 GetTid) ∷ at 5 (Request 0)
-    ∷ at 5 (Open 8 (GetPdr 0 0 1 1 0)) ∷ []
+    at 9 (Request 1) ∷ at 8 (Request 0) ∷ at 7 (Request 1) ∷ at 6 (open_for 8 GetTid) ∷ at 5 (Request 0)
+    ∷ at 5 (open_for 8 (GetPdr 0 0 1 1 0)) ∷ []
 
 each_is_performed : commands_in refused_and_read ≡ GetTid ∷ GetPdr 0 0 1 1 0 ∷ []
 unfolding request_of command_of response_of
@@ -153,7 +153,7 @@ each_at_its_first_arrival = refl
 
 -- a copy that comes at the keeping time is performed again; its first arrival is one
 abbrev too_late : List Step
-too_late = at 1000 (Request 0) ∷ at 0 (Request 0) ∷ at 0 (Open 8 GetTid) ∷ []
+too_late = at 1000 (Request 0) ∷ at 0 (Request 0) ∷ at 0 (open_for 8 GetTid) ∷ []
 
 late_copy_is_performed_again : commands_in too_late ≡ GetTid ∷ GetTid ∷ []
 unfolding request_of command_of response_of

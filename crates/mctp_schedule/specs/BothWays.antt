@@ -9,7 +9,7 @@ use Rattle.mctp_schedule.specs.Worlds.{BothEnds, IsTimely, NeverWentBack, reques
 use Rattle.pldm_requester.specs.Courses.{Answered}
 use Rattle.pldm_responder.specs.Performing.{Rules, performed}
 use Rattle.pldm_wire.specs.declared.restart_policy.RestartPolicy.TheVariants.{All}
-use Rattle.schedule_text.specs.declared.step.Step.{Step}
+use Rattle.mctp_schedule.specs.Actions.{Step}
 
 -- a step about requests that the near end performs, or about such that the far end does
 pub data TwoWayStep : Type 0 where

@@ -6,7 +6,7 @@ use Rattle.pldm_wire.specs.declared.restart_policy.RestartPolicy.TheVariants.{Al
 use Rattle.pldm_responder.specs.Calls.{answer_expected}
 use Rattle.pldm_responder.specs.Events.{Place, is_busy, is_copy, is_fresh, origin}
 use Rattle.pldm_responder.specs.Performing.{Rules, performed}
-use Rattle.mctp_schedule.specs.Logs.{Asked, Happening, Delivered, asked_at, message_at, reached}
+use Rattle.mctp_schedule.specs.Logs.{Asked, Happening, Delivered, asked_at, message_at, reached, endpoint_of}
 use Rattle.mctp_schedule.specs.FirstArrivals.{IsOrderOfFirsts, first, is_first, order}
 use Rattle.mctp_schedule.specs.OncePerformed.{FitsPackets, RepliesFit, delivery_expected, given, given_once, once, the_reply}
 use Rattle.mctp_schedule.specs.Timely.{IsTimelyLog}
@@ -18,7 +18,7 @@ NoneOpenedSince S =
     (window keep lifetime : ℕ) (past : List Happening) (moment k j : ℕ) (r q : Asked)
     → IsTimelyLog S window keep lifetime (Delivered moment k ∷ past)
     → asked_at past k ≡ Some r → asked_at past j ≡ Some q → k ≢ j
-    → q.source ≡ r.source → id_at q.message ≡ id_at r.message
+    → endpoint_of q.source ≡ endpoint_of r.source → id_at q.message ≡ id_at r.message
     → q.opening + 2 * lifetime ≤ r.opening
 
 -- the fresh deliveries are the requests that arrived, in the order of their first arrivals, each once
@@ -37,7 +37,7 @@ FreshWhereFirst S =
     → (is_fresh All window keep (reached {S = S} past) (message_at moment r) ≡ is_first S keep past moment k)
     × (is_copy All window keep (reached {S = S} past) (message_at moment r) ≡ not (is_first S keep past moment k))
     × ((place : List Happening) → first S keep past k ≡ Some place → (p : Place S)
-    × (origin All window keep (reached {S = S} past) r.source (id_at r.message) ≡ Some p) × (p.message.bytes ≡ r.message)
+    × (origin All window keep (reached {S = S} past) (endpoint_of r.source) (id_at r.message) ≡ Some p) × (p.message.bytes ≡ r.message)
     × (moment < p.message.moment + keep))
 
 module _ {S : Type 0} (device : Rules S) where

@@ -7,9 +7,9 @@ use Rattle.pldm_requester.specs.Calls as requester
 use Rattle.mctp_schedule.specs.FirstArrivals.{arrives_at}
 use Rattle.mctp_schedule.specs.Logs.{Asked, Happening, Delivered, Sensed, WentDown, Apart, InOrder, asked_at, message_at, reached}
 use Rattle.mctp_schedule.specs.Worlds.{BothEnds, World, TagIsOwn, busy_packet, handed, log_opened, packet_of, source_of, with_call}
-use Rattle.schedule_text.specs.declared.step.Action.{Action}
-use Rattle.schedule_text.specs.declared.step.Action.TheVariants.{Open, Tick, Request, Reply, Sense, Restart, Busy}
-use Rattle.schedule_text.specs.declared.step.Step.{Step}
+use Rattle.mctp_schedule.specs.Actions.{Action}
+use Rattle.mctp_schedule.specs.Actions.{Open, Tick, Request, Reply, Sense, Restart, Busy}
+use Rattle.mctp_schedule.specs.Actions.{Step}
 
 -- each request is delivered less than the keeping time after it was opened
 abbrev pub InTime : ℕ → List Happening → Type 0
@@ -47,9 +47,9 @@ module _ {S : Type 0} (setting : BothEnds S) where
 
   -- what a step makes of the world
   abbrev pub done : World → ℕ → Action → World
-  done world moment (Open e command) =
-      let opens = requester.Open moment command in
-      record { calls = with_call world.calls e opens; log = log_opened setting world moment e command }
+  done world moment (Open e ask) =
+      let opens = requester.OpenRequest moment ask in
+      record { calls = with_call world.calls e opens; log = log_opened setting world moment e ask }
   done world moment (Tick e) = record { calls = with_call world.calls e (requester.Tick moment); log = world.log }
   done world moment (Request k) = record { calls = world.calls; log = Delivered moment k ∷ world.log }
   done world moment (Reply j k) =
@@ -73,7 +73,7 @@ module _ {S : Type 0} (setting : BothEnds S) where
       (bytes : List ℕ) → reply_packet world k j ≡ Some bytes → TagIsOwn setting world k
   IsTimelyAction world moment (Busy k) =
       (bytes : List ℕ) → busy_packet setting world k ≡ Some bytes → TagIsOwn setting world k
-  IsTimelyAction world moment (Open e command) = Unit {0}
+  IsTimelyAction world moment (Open e ask) = Unit {0}
   IsTimelyAction world moment (Tick e) = Unit {0}
   IsTimelyAction world moment (Sense id value) = Unit {0}
   IsTimelyAction world moment Restart = Unit {0}

@@ -12,14 +12,14 @@ use Rattle.pldm_requester.specs.declared.results.Opened.{Opened as OpenedAs}
 use Rattle.pldm_requester.specs.declared.results.OpenFault.{OpenFault}
 use Rattle.mctp_schedule.specs.HandedPackets.{got_of_busy, got_of_reply}
 use Rattle.mctp_schedule.specs.Logs as logs
-use Rattle.mctp_schedule.specs.Logs.{Asked, Happening, asked_at, count_of, message_at, reached}
+use Rattle.mctp_schedule.specs.Logs.{Asked, Happening, asked_at, count_of, message_at, reached, endpoint_of}
 use Rattle.mctp_schedule.specs.Requests.{Request as EndedRequest}
 use Rattle.mctp_schedule.specs.Worlds.{BothEnds, World, requests_of, timing_of, world}
 use Rattle.mctp_schedule.specs.declared.entry.Entry.{Entry}
 use Rattle.mctp_schedule.specs.declared.entry.Entry.TheVariants.{Nothing, Opened, NotOpened, Due, Delivered, Received, Sensed, Restarted}
-use Rattle.schedule_text.specs.declared.step.Action.{Action}
-use Rattle.schedule_text.specs.declared.step.Action.TheVariants as actions
-use Rattle.schedule_text.specs.declared.step.Step.{Step}
+use Rattle.mctp_schedule.specs.Actions.{Action}
+use Rattle.mctp_schedule.specs.Actions as actions
+use Rattle.mctp_schedule.specs.Actions.{Step}
 
 -- the numbers, over all requests, of the requests of one endpoint, in the order of their openings
 abbrev pub numbers_of : List Happening → ℕ → List ℕ
@@ -56,8 +56,8 @@ module _ {S : Type 0} (setting : BothEnds S) where
       let timing = timing_of setting e in
       let pace = setting.pace in
       record {
-        again = record { items = numbered numbers (again_expected e setting.eid timing pace calls moment) };
-        given_up = record { items = numbered numbers (given_up_expected e setting.eid timing pace calls moment) };
+        again = record { items = numbered numbers (again_expected (endpoint_of e) setting.eid timing pace calls moment) };
+        given_up = record { items = numbered numbers (given_up_expected (endpoint_of e) setting.eid timing pace calls moment) };
       }
 
   -- what the responder answers to the packet of a request
@@ -75,9 +75,9 @@ module _ {S : Type 0} (setting : BothEnds S) where
 
   -- what comes of an action in a world
   abbrev pub entry_of : World → ℕ → Action → Entry
-  entry_of world moment (actions.Open e command) =
+  entry_of world moment (actions.Open e ask) =
       open_entry (count_of world.log)
-      (open_expected e setting.eid (timing_of setting e) setting.pace (world.calls e) moment)
+      (open_expected (endpoint_of e) setting.eid (timing_of setting e) setting.pace (world.calls e) moment)
   entry_of world moment (actions.Tick e) = Due (due_at world moment e)
   entry_of world moment (actions.Request k) = delivery_entry world.log moment (asked_at world.log k)
   entry_of world moment (actions.Reply j k) = got_entry (got_of_reply setting world k j)

@@ -2,13 +2,13 @@
 use Rattle.std.specs.Prelude.{ℕ, List, Option, Some, None}
 use Rattle.pldm_requester.specs.Calls.{got_expected}
 use Rattle.pldm_requester.specs.declared.results.Got.{Got}
-use Rattle.mctp_schedule.specs.Logs.{asked_at}
+use Rattle.mctp_schedule.specs.Logs.{asked_at, endpoint_of}
 use Rattle.mctp_schedule.specs.Worlds.{BothEnds, World, busy_packet, reply_packet, source_of, timing_of}
 
 module _ {S : Type 0} (setting : BothEnds S) where
   abbrev pub got_from : World → ℕ → Option (List ℕ) → Option Got
   got_from world e None = None
-  got_from world e (Some bytes) = Some (got_expected e setting.eid (timing_of setting e) setting.pace (world.calls e) bytes)
+  got_from world e (Some bytes) = Some (got_expected (endpoint_of e) setting.eid (timing_of setting e) setting.pace (world.calls e) bytes)
 
   -- what packet j of the latest reply to request k gives, and what the latest busy answer to it does
   abbrev pub got_of_reply : World → ℕ → ℕ → Option Got

@@ -19,9 +19,9 @@ use Rattle.mctp_schedule.specs.TakenReplies.{busy_expected, reply_expected}
 use Rattle.mctp_schedule.specs.Worlds.{BothEnds, world}
 use Rattle.mctp_schedule.specs.declared.entry.Entry.{Entry}
 use Rattle.mctp_schedule.specs.declared.entry.Entry.TheVariants.{Nothing, Delivered, Sensed}
-use Rattle.schedule_text.specs.declared.step.Action.{Action}
-use Rattle.schedule_text.specs.declared.step.Action.TheVariants as actions
-use Rattle.schedule_text.specs.declared.step.Step.{Step}
+use Rattle.mctp_schedule.specs.Actions.{Action}
+use Rattle.mctp_schedule.specs.Actions as actions
+use Rattle.mctp_schedule.specs.Actions.{Step}
 
 module _ {S : Type 0} (setting : BothEnds S) where
   -- the device's state where each request that arrived is performed once, at its first arrival
@@ -45,8 +45,8 @@ module _ {S : Type 0} (setting : BothEnds S) where
   entry_owes past moment (actions.Busy k) = got_entry (busy_expected setting past k)
   entry_owes past moment (actions.Sense id value) =
       Sensed (made_of (λ _. tt) (setting.device.sensed (state_once past) id value))
-  entry_owes past moment (actions.Open e command) =
-      entry_of setting (world setting past) moment (actions.Open e command)
+  entry_owes past moment (actions.Open e ask) =
+      entry_of setting (world setting past) moment (actions.Open e ask)
   entry_owes past moment (actions.Tick e) = entry_of setting (world setting past) moment (actions.Tick e)
   entry_owes past moment actions.Restart = entry_of setting (world setting past) moment actions.Restart
 

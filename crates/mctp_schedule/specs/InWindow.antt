@@ -3,7 +3,7 @@
 use Rattle.std.specs.Prelude.{◌≡◌, ℕ, List, [], ◌∷◌, length, ◌&&◌, ◌==◌, Bool, true, nat_lt, Option, Some, None, if◌then◌else◌}
 use Rattle.pldm_wire.specs.Headers.{id_at}
 use Rattle.mctp_schedule.specs.FirstArrivals.{has_arrived, is_first}
-use Rattle.mctp_schedule.specs.Logs.{Asked, Happening, Delivered, asked_at}
+use Rattle.mctp_schedule.specs.Logs.{Asked, Happening, Delivered, asked_at, endpoint_of}
 use Rattle.pldm_responder.specs.Recency.{renewed}
 use Rattle.mctp_schedule.specs.Timely.{is_in_window}
 
@@ -11,7 +11,7 @@ use Rattle.mctp_schedule.specs.Timely.{is_in_window}
 abbrev pub with_other : Bool → Option Asked → ℕ → ℕ → List ℕ → List ℕ
 with_other first None source id others = others
 with_other first (Some r) source id others =
-    if r.source == source && first
+    if endpoint_of r.source == source && first
     then (if id_at r.message == id then [] else renewed (λ other. other) (id_at r.message) others)
     else others
 
@@ -30,4 +30,4 @@ module _ (S : Type 0) where
       (window keep : ℕ) (past : List Happening) (k : ℕ) (r : Asked)
       → asked_at past k ≡ Some r → has_arrived S keep past k ≡ true
       → is_in_window S window keep past r
-      ≡ nat_lt (length (others_arrived keep past r.source (id_at r.message))) window
+      ≡ nat_lt (length (others_arrived keep past (endpoint_of r.source) (id_at r.message))) window

@@ -3,18 +3,18 @@
 use Rattle.std.specs.Prelude.{◌≡◌, ◌≤◌, ◌↔◌, ℕ, true, List}
 use Rattle.pldm_wire.specs.declared.assigned.TheConstants.{INSTANCE_IDS}
 use Rattle.mctp_schedule.specs.EachId as each_id
-use Rattle.mctp_schedule.specs.Logs.{Happening}
+use Rattle.mctp_schedule.specs.Logs.{AreRested, Happening}
 use Rattle.mctp_schedule.specs.RequesterHalf.{IsTimelySchedule}
 use Rattle.mctp_schedule.specs.Timely.{IsTimelyLog}
 use Rattle.mctp_schedule.specs.Worlds.{IsTimely, NeverWentBack, BothEnds, is_timely, world}
-use Rattle.schedule_text.specs.declared.step.Step.{Step}
+use Rattle.mctp_schedule.specs.Actions.{Step}
 
 -- over a timely schedule the log of the link is timely, where the requesters go by the keeping time alone: what the
 -- device's half rests on
 abbrev pub LogIsTimely : {S : Type 0} → BothEnds S → Type 0
 LogIsTimely {S} setting =
     (steps : List Step) → NeverWentBack steps → IsTimely setting steps
-    → setting.pace.lifetime ≡ setting.keep
+    → setting.pace.lifetime ≡ setting.keep → AreRested setting.keep (world setting steps).log
     → IsTimelyLog S setting.window setting.keep setting.pace.lifetime (world setting steps).log
 
 -- and so it is at every pace that suits the device

@@ -1,3 +1,4 @@
+pub mod Actions
 pub mod ArrivedIds
 pub mod Askers
 pub mod Deliveries

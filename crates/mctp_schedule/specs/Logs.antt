@@ -1,11 +1,16 @@
 -- What happened on the link between requesters and a device, the newest first, and what of it reached the responder.
-use Rattle.std.specs.Prelude.{◌≡◌, ℕ, suc, ◌+◌, ◌*◌, ◌%◌, ◌≤◌, ℤ, List, [], ◌∷◌, ◌==◌, Option, Some, None, if◌then◌else◌}
+use Rattle.std.specs.Prelude.{◌≡◌, ◌≢◌, ℕ, suc, ◌+◌, ◌*◌, ◌%◌, ◌<◌, ◌≤◌, ℤ, List, [], ◌∷◌, ◌==◌, Option, Some, None, if◌then◌else◌}
 use Rattle.mctp_packet.specs.declared.TheConstants.{TAGS}
 use Rattle.pldm_wire.specs.Headers.{id_at}
 use Rattle.pldm_responder.specs.Events.{Message, Event, Came, Set, Restarted}
 
--- a request that was opened: the endpoint that asks, its number among that one's requests from 0 on, the moment at
--- which it was opened, and its message
+-- A requester that begins anew at its endpoint is another one. The number of a requester is its endpoint ID, and 256 more
+-- for each time that one began anew there.
+abbrev pub endpoint_of : ℕ → ℕ
+endpoint_of requester = requester % 256
+
+-- a request that was opened: the requester, the request's number among that one's requests from 0 on, the moment at which
+-- it was opened, and its message
 pub record Asked : Type 0 where
   pub source : ℕ
   pub own : ℕ
@@ -45,7 +50,7 @@ asked_at (_ ∷ past) k = asked_at past k
 
 -- the message of a request as it comes to the device at a moment: its packet has the requester's own number as its tag
 abbrev pub message_at : ℕ → Asked → Message
-message_at moment r = record { source = r.source; tag = r.own % TAGS; moment = moment; bytes = r.message }
+message_at moment r = record { source = endpoint_of r.source; tag = r.own % TAGS; moment = moment; bytes = r.message }
 
 -- over a device of any state: nothing that happens on the link changes it from outside
 module _ {S : Type 0} where
@@ -70,7 +75,7 @@ InOrder (newest ∷ past) = (last_of past ≤ moment_of newest) × InOrder past
 -- the other requests of r's source and instance ID were opened at least twice the keeping time before r
 abbrev pub ComesLate : ℕ → Asked → List Happening → Type 0
 ComesLate keep r past =
-    (k : ℕ) (q : Asked) → asked_at past k ≡ Some q → q.source ≡ r.source → id_at q.message ≡ id_at r.message
+    (k : ℕ) (q : Asked) → asked_at past k ≡ Some q → endpoint_of q.source ≡ endpoint_of r.source → id_at q.message ≡ id_at r.message
     → q.opening + 2 * keep ≤ r.opening
 
 -- a source uses an instance ID again after twice the keeping time, no sooner
@@ -78,3 +83,15 @@ abbrev pub Apart : ℕ → List Happening → Type 0
 Apart keep [] = Unit {0}
 Apart keep (Opened r ∷ past) = ComesLate keep r past × Apart keep past
 Apart keep (_ ∷ past) = Apart keep past
+
+-- r's requester is the last at its endpoint: what the ones before it opened was opened twice the keeping time before r
+abbrev pub ComesRested : ℕ → Asked → List Happening → Type 0
+ComesRested keep r past =
+    (k : ℕ) (q : Asked) → asked_at past k ≡ Some q → endpoint_of q.source ≡ endpoint_of r.source → q.source ≢ r.source
+    → (q.source < r.source) × (q.opening + 2 * keep ≤ r.opening)
+
+-- each requester that begins anew opens nothing before twice the keeping time has passed
+abbrev pub AreRested : ℕ → List Happening → Type 0
+AreRested keep [] = Unit {0}
+AreRested keep (Opened r ∷ past) = ComesRested keep r past × AreRested keep past
+AreRested keep (_ ∷ past) = AreRested keep past

@@ -11,7 +11,7 @@ use Rattle.mctp_schedule.specs.PerformedCommands.{commands_performed}
 use Rattle.mctp_schedule.specs.RequesterHalf.{IsTimelySchedule}
 use Rattle.mctp_schedule.specs.Requests.{Request}
 use Rattle.mctp_schedule.specs.Worlds.{BothEnds, world}
-use Rattle.schedule_text.specs.declared.step.Step.{Step}
+use Rattle.mctp_schedule.specs.Actions.{Step}
 
 -- these are the requests that were opened, by their numbers, each as it stands
 abbrev pub AreTheRequests : {S : Type 0} → BothEnds S → List Step → List Request → Type 0

@@ -5,8 +5,8 @@ use Rattle.pldm_responder.specs.Performing.{commands_of}
 use Rattle.pldm_wire.specs.declared.command.Command.{Command}
 use Rattle.mctp_schedule.specs.FirstArrivals.{fresh_of, is_first}
 use Rattle.mctp_schedule.specs.Logs.{Asked, Happening, Delivered, asked_at, reached}
-use Rattle.schedule_text.specs.declared.step.Action.{Action}
-use Rattle.schedule_text.specs.declared.step.Action.TheVariants.{Open, Tick, Request, Reply, Sense, Restart, Busy}
+use Rattle.mctp_schedule.specs.Actions.{Action}
+use Rattle.mctp_schedule.specs.Actions.{Open, Tick, Request, Reply, Sense, Restart, Busy}
 
 -- the command of a request that was opened, if it is performed
 abbrev pub commands_if : Bool → Option Asked → List Command
@@ -37,7 +37,7 @@ module _ (S : Type 0) where
   -- the commands that a step has performed after what happened on the link: a delivery alone performs any
   abbrev pub commands_at_step : (window keep : ℕ) → List Happening → ℕ → Action → List Command
   commands_at_step window keep log moment (Request k) = commands_at_delivery window keep log moment k
-  commands_at_step window keep log moment (Open e command) = []
+  commands_at_step window keep log moment (Open e ask) = []
   commands_at_step window keep log moment (Tick e) = []
   commands_at_step window keep log moment (Reply j k) = []
   commands_at_step window keep log moment (Sense id value) = []

@@ -11,7 +11,7 @@ use Rattle.mctp_schedule.specs.PerformedCommands.{commands_performed}
 use Rattle.mctp_schedule.specs.Requests.{Request}
 use Rattle.mctp_schedule.specs.Worlds.{BothEnds, is_timely, world}
 use Rattle.mctp_schedule.specs.declared.entry.Entry.{Entry}
-use Rattle.schedule_text.specs.declared.step.Step.{Step}
+use Rattle.mctp_schedule.specs.Actions.{Step}
 
 -- the parts of a report; of the device its state
 pub record Parts (S : Type 0) : Type 0 where

@@ -3,19 +3,18 @@
 use Rattle.std.specs.Prelude.{◌≡◌, ◌≢◌, ◌⊎◌, ℕ, ◌≤◌, true, false, List, slice_get, Some}
 use Rattle.mctp_packet.specs.Ids.{IsEid}
 use Rattle.mctp_assembly.specs.Histories as assembly
-use Rattle.pldm_wire.specs.Kinds.{TypeAndCommand}
 use Rattle.pldm_responder.specs.Performing.{reply}
 use Rattle.pldm_requester.specs.Calls.{answer_key, assembled}
 use Rattle.pldm_requester.specs.Courses.{Progress, Waiting, Answered, GaveUp}
 use Rattle.pldm_requester.specs.Numbering.{tag_of}
-use Rattle.mctp_schedule.specs.Logs.{Asked, Happening, asked_at}
+use Rattle.mctp_schedule.specs.Logs.{Asked, Happening, asked_at, endpoint_of, AreRested}
 use Rattle.mctp_schedule.specs.FirstArrivals.{first, order}
 use Rattle.mctp_schedule.specs.OncePerformed.{RepliesFit, once}
 use Rattle.mctp_schedule.specs.HandedPackets.{got_of_busy, got_of_reply}
 use Rattle.mctp_schedule.specs.TakenReplies.{busy_expected, came, completes, is_waiting, reply_of, reply_expected, taken}
 use Rattle.mctp_schedule.specs.Worlds.{IsTimely, IsTimelyAction, NeverWentBack, BothEnds, requests_of, timing_of, world}
-use Rattle.schedule_text.specs.declared.step.Action.TheVariants.{Reply, Busy}
-use Rattle.schedule_text.specs.declared.step.Step.{Step}
+use Rattle.mctp_schedule.specs.Actions.{Reply, Busy}
+use Rattle.mctp_schedule.specs.Actions.{AreOfKinds, Step}
 
 -- a pace that suits the device: the line's lifetime is no longer than the keeping time, and the window that the pace
 -- counts is no smaller than the device's, or the pace goes by the keeping time alone
@@ -23,16 +22,18 @@ pub record SuitsDevice {S : Type 0} (setting : BothEnds S) : Type 0 where
   pub within : setting.pace.lifetime ≤ setting.keep
   pub window : (setting.window ≤ setting.pace.window) ⊎ (setting.pace.lifetime ≡ setting.keep)
 
--- the device and each requester that opened a request have endpoint IDs, not the same one, and each reply that the
--- device made fits packets; their pace suits the device; no request is handed on to the device as bytes
+-- the device and each requester that opened a request have endpoint IDs, not the same one, each request is of a PLDM type
+-- that there is, and each reply that the device made fits packets; their pace suits the device, and one that begins anew
+-- rests first
 pub record IsSound {S : Type 0} (setting : BothEnds S) (steps : List Step) : Type 0 where
   pub device : IsEid setting.eid
   pub sources :
       (k : ℕ) (r : Asked) → asked_at (world setting steps).log k ≡ Some r
-      → IsEid r.source × (r.source ≢ setting.eid)
+      → IsEid (endpoint_of r.source) × (endpoint_of r.source ≢ setting.eid)
   pub fit : RepliesFit setting.device setting.window setting.keep setting.start (world setting steps).log
   pub pace : SuitsDevice setting
-  pub reads : (kind : TypeAndCommand) → setting.device.hands_on kind ≡ false
+  pub asks : AreOfKinds steps
+  pub rested : AreRested setting.keep (world setting steps).log
 
 -- a timely schedule of such requesters and such replies
 pub record IsTimelySchedule {S : Type 0} (setting : BothEnds S) (steps : List Step) : Type 0 where
@@ -66,7 +67,7 @@ module _ {S : Type 0} (setting : BothEnds S) where
       → IsTimelySchedule setting steps → asked_at (world setting steps).log k ≡ Some r
       → is_waiting setting (world setting steps) r ≡ true
       → assembly.since (answer_key setting.eid (tag_of r.own))
-      (assembled r.source setting.eid (timing_of setting r.source) setting.pace ((world setting steps).calls r.source))
+      (assembled (endpoint_of r.source) setting.eid (timing_of setting r.source) setting.pace ((world setting steps).calls r.source))
       ≡ came setting steps k r
 
   -- what the packet of a reply gives at its requester is what the definitions owe to it

@@ -18,24 +18,22 @@ use Rattle.mctp_schedule.specs.ArrivedIds.{ids_at}
 use Rattle.mctp_schedule.specs.FirstArrivals.{has_arrived, order}
 use Rattle.mctp_schedule.specs.HeldRuns.{HeldRun}
 use Rattle.mctp_schedule.specs.Journals.{Carried, packets_in}
-use Rattle.mctp_schedule.specs.Logs.{Asked, Happening, Opened, Delivered, Sensed, WentDown, asked_at, count_of, reached}
+use Rattle.mctp_schedule.specs.Logs.{Asked, Happening, Opened, Delivered, Sensed, WentDown, asked_at, count_of, reached, endpoint_of}
 use Rattle.mctp_schedule.specs.OncePerformed.{AreRequests, IsReadable, RepliesFit, given, was_busy}
 use Rattle.mctp_schedule.specs.PerformedCommands.{commands_at_step}
 use Rattle.mctp_schedule.specs.Places.{side_at}
 use Rattle.mctp_schedule.specs.Timely.{ids_arrived}
-use Rattle.schedule_text.specs.Schedules.{has_requester, is_known}
+use Rattle.schedule_text.specs.Schedules.{has_requester}
 use Rattle.mctp_schedule.specs.Worlds.{BothEnds, World, answer_packets, is_timely, requests_of, time_now, timing_of, world}
 use Rattle.mctp_schedule.specs.declared.entry.Entry.{Entry}
 use Rattle.schedule_text.specs.declared.step.RequesterLine.{RequesterLine}
-use Rattle.schedule_text.specs.declared.step.Action.{Action}
-use Rattle.schedule_text.specs.declared.step.Action.TheVariants.{Busy, Reply}
-use Rattle.schedule_text.specs.declared.step.Step.{Step}
+use Rattle.mctp_schedule.specs.Actions.{Action, Busy, Reply, Step, is_known}
 
 -- the packet of a request comes to the responder; a request that was never opened has none
 abbrev pub received : {S : Type 0} → ℕ → ℕ → Option Asked → List (responder.Call S) → List (responder.Call S)
 received eid moment None calls = calls
 received eid moment (Some r) calls =
-    responder.Received moment (packet_bytes r.source eid r.own r.message) ∷ calls
+    responder.Received moment (packet_bytes (endpoint_of r.source) eid r.own r.message) ∷ calls
 
 -- the calls of the responder at the endpoint `eid`
 abbrev pub device_calls : {S : Type 0} → ℕ → List Happening → List (responder.Call S)
@@ -58,7 +56,7 @@ pub record IsOpened {S : Type 0} (setting : BothEnds S) (w : World) (k : ℕ) (r
 pub record IsSide {S : Type 0} (setting : BothEnds S) (w : World) (now e : ℕ) (side : Side) : Type 0 where
   pub endpoint : IsEid e
   pub other : e ≢ setting.eid
-  pub left : requester_laws.IsLeftBy e setting.eid (timing_of setting e) setting.pace (held_of side.station) (w.calls e)
+  pub left : requester_laws.IsLeftBy (endpoint_of e) setting.eid (timing_of setting e) setting.pace (held_of side.station) (w.calls e)
   pub numbers : side.numbers ≡ numbers_of w.log e
   pub counted : length (numbers_of w.log e) ≡ (requests_of setting w e).count
   pub numbered : (own k : ℕ) → slice_get (numbers_of w.log e) own ≡ Some k
@@ -86,7 +84,7 @@ busy_packets eid r false = None
 -- what is written down of request k, which is r, has its packet, its latest reply and its latest busy answer
 pub record IsCarried {S : Type 0}
     (setting : BothEnds S) (w : World) (entries : List Entry) (k : ℕ) (r : Asked) (carried : Carried) : Type 0 where
-  pub packet : carried.header ++ r.message ≡ packet_bytes r.source setting.eid r.own r.message
+  pub packet : carried.header ++ r.message ≡ packet_bytes (endpoint_of r.source) setting.eid r.own r.message
   pub reply : packets_in entries carried.reply
       ≡ option_map (answer_packets setting.eid r)
       (given setting.device setting.window setting.keep setting.start w.log k)

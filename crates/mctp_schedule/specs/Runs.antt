@@ -6,7 +6,7 @@ use Rattle.pldm_requester.specs.Pacing.{at_default}
 use Rattle.mctp_schedule.specs.Logs.{reached}
 use Rattle.schedule_text.specs.Schedules.{Spelled}
 use Rattle.mctp_schedule.specs.Worlds.{BothEnds, World, world}
-use Rattle.schedule_text.specs.declared.step.Step.{Step}
+use Rattle.mctp_schedule.specs.Actions.{Step, as_steps}
 
 -- a device with these rules and this window, in its first state, at the endpoint `eid`; both ends keep for `keep`
 abbrev pub setting_of_run : {S : Type 0} → Rules S → S → (eid keep window : ℕ) → Spelled → BothEnds S
@@ -20,9 +20,9 @@ setting_of_run device start eid keep window schedule = record {
   pace = at_default keep;
 }
 
--- a schedule has its oldest step first
+-- the steps of a schedule, which has its oldest one first
 abbrev pub newest_first : Spelled → List Step
-newest_first schedule = reverse schedule.steps
+newest_first schedule = as_steps (reverse schedule.steps)
 
 -- the world after all steps
 abbrev pub final_world : {S : Type 0} → BothEnds S → Spelled → World

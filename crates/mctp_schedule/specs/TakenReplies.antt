@@ -18,9 +18,9 @@ use Rattle.pldm_requester.specs.declared.results.Got.TheVariants as got
 use Rattle.mctp_schedule.specs.Logs.{Asked, asked_at, message_at}
 use Rattle.mctp_schedule.specs.OncePerformed.{the_reply, was_busy}
 use Rattle.mctp_schedule.specs.Worlds.{BothEnds, World, requests_of, world}
-use Rattle.schedule_text.specs.declared.step.Action.{Action}
-use Rattle.schedule_text.specs.declared.step.Action.TheVariants.{Reply, Busy}
-use Rattle.schedule_text.specs.declared.step.Step.{Step}
+use Rattle.mctp_schedule.specs.Actions.{Action}
+use Rattle.mctp_schedule.specs.Actions.{Reply, Busy}
+use Rattle.mctp_schedule.specs.Actions.{Step}
 
 -- the last so many deliveries are packets 0, 1, .. in order; `None` is a busy answer
 abbrev pub row : ℕ → List (Option ℕ) → Bool

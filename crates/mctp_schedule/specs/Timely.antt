@@ -4,14 +4,14 @@ use Rattle.std.specs.Prelude.{◌≡◌, ◌⊎◌, ℕ, ◌+◌, ◌*◌, ◌<�
 use Rattle.std.specs.List.{list_any}
 use Rattle.pldm_wire.specs.Headers.{id_at}
 use Rattle.mctp_schedule.specs.FirstArrivals.{has_arrived, is_first}
-use Rattle.mctp_schedule.specs.Logs.{Asked, Happening, Opened, Delivered, InOrder, asked_at}
+use Rattle.mctp_schedule.specs.Logs.{Asked, Happening, Opened, Delivered, InOrder, asked_at, endpoint_of}
 use Rattle.pldm_responder.specs.Recency.{renewed}
 
 -- one instance ID is put in front, where a first arrival is of this source
 abbrev pub with_first : Bool → Option Asked → ℕ → List ℕ → List ℕ
 with_first first None source ids = ids
 with_first first (Some r) source ids =
-    if r.source == source && first then renewed (λ id. id) (id_at r.message) ids else ids
+    if endpoint_of r.source == source && first then renewed (λ id. id) (id_at r.message) ids else ids
 
 -- over a device with states S
 module _ (S : Type 0) where
@@ -26,13 +26,13 @@ module _ (S : Type 0) where
   -- `window` others had one since its own
   abbrev pub is_in_window : (window keep : ℕ) → List Happening → Asked → Bool
   is_in_window window keep past r =
-      list_any (λ id. id == id_at r.message) (take window (ids_arrived keep past r.source))
+      list_any (λ id. id == id_at r.message) (take window (ids_arrived keep past (endpoint_of r.source)))
 
   -- r's source uses its instance ID again: twice the lifetime or more after each other request with it was opened, and
   -- less than twice the keeping time after only where the instance ID is out of the window
   abbrev pub ComesFree : (window keep lifetime : ℕ) → Asked → List Happening → Type 0
   ComesFree window keep lifetime r past =
-      (k : ℕ) (q : Asked) → asked_at past k ≡ Some q → q.source ≡ r.source → id_at q.message ≡ id_at r.message
+      (k : ℕ) (q : Asked) → asked_at past k ≡ Some q → endpoint_of q.source ≡ endpoint_of r.source → id_at q.message ≡ id_at r.message
       → (q.opening + 2 * lifetime ≤ r.opening)
       × ((q.opening + 2 * keep ≤ r.opening) ⊎ (is_in_window window keep past r ≡ false))
 

@@ -2,25 +2,25 @@
 -- A reply that a step delivers is a packet of what the device gave.
 use Rattle.std.specs.Prelude.{◌≡◌, ℕ, ◌+◌, ◌≤◌, ◌==◌, ◌&&◌, ◌||◌, not, nat_lt, nat_le, is_some, Bool, true, List, [], ◌∷◌, find, slice_get, Option, Some, None, option_and_then, if◌then◌else◌}
 use Rattle.mctp_packet.specs.declared.TheConstants.{TAGS}
-use Rattle.pldm_wire.specs.declared.command.Command.{Command}
 use Rattle.pldm_responder.specs.Arrivals.{packets_back}
 use Rattle.pldm_responder.specs.Performing.{Rules, busy_reply}
+use Rattle.pldm_requester.specs.Asks.{Ask}
 use Rattle.pldm_requester.specs.Calls as requester
 use Rattle.pldm_requester.specs.Calls.{accepts, requests}
-use Rattle.pldm_requester.specs.Numbering.{message_of}
+use Rattle.pldm_requester.specs.Numbering.{message_with}
 use Rattle.pldm_requester.specs.declared.pace.Pace.{Pace}
 use Rattle.pldm_requester.specs.declared.timing.Timing.{Timing}
 use Rattle.mctp_schedule.specs.FirstArrivals.{has_arrived}
-use Rattle.mctp_schedule.specs.Logs.{Asked, Happening, Opened, Delivered, Sensed, WentDown, asked_at, message_at}
+use Rattle.mctp_schedule.specs.Logs.{Asked, Happening, Opened, Delivered, Sensed, WentDown, asked_at, message_at, endpoint_of}
 use Rattle.mctp_schedule.specs.OncePerformed.{given, was_busy}
 use Rattle.mctp_schedule.specs.Timely.{ComesInTime, is_in_window}
 use Rattle.schedule_text.specs.Schedules.{is_requester}
 use Rattle.schedule_text.specs.declared.step.RequesterLine.{RequesterLine}
-use Rattle.schedule_text.specs.declared.step.Action.{Action}
-use Rattle.schedule_text.specs.declared.step.Action.TheVariants.{Open, Tick, Request, Reply, Sense, Restart, Busy}
-use Rattle.schedule_text.specs.declared.step.Step.{Step}
+use Rattle.mctp_schedule.specs.Actions.{Action}
+use Rattle.mctp_schedule.specs.Actions.{Open, Tick, Request, Reply, Sense, Restart, Busy}
+use Rattle.mctp_schedule.specs.Actions.{Step}
 
--- the calls of each endpoint's requester, and what happened on the link, the newest first
+-- the calls of each requester, and what happened on the link, the newest first
 pub record World : Type 0 where
   pub calls : ℕ → List requester.Call
   pub log : List Happening
@@ -40,11 +40,11 @@ abbrev pub timing_from : ℕ → Option RequesterLine → Timing
 timing_from keep None = record { keep = keep; timeout = 0; tries = 0 }
 timing_from keep (Some line) = record { keep = keep; timeout = line.timeout; tries = line.tries }
 
--- the timing of the requester at an endpoint
+-- the timing of a requester: that of its endpoint's line
 abbrev pub timing_of : {S : Type 0} → BothEnds S → ℕ → Timing
-timing_of setting e = timing_from setting.keep (find (is_requester e) setting.requesters)
+timing_of setting e = timing_from setting.keep (find (is_requester (endpoint_of e)) setting.requesters)
 
--- one more call of the requester at endpoint e
+-- one more call of requester e
 abbrev pub with_call : (ℕ → List requester.Call) → ℕ → requester.Call → ℕ → List requester.Call
 with_call calls e call d = if d == e then call ∷ calls d else calls d
 
@@ -59,19 +59,19 @@ answer_packets own r message = packets_back own (message_at r.opening r) message
 module _ {S : Type 0} (setting : BothEnds S) where
   -- the requests of the requester at an endpoint
   abbrev pub requests_of : World → ℕ → requester.Requests
-  requests_of world e = requests e setting.eid (timing_of setting e) setting.pace (world.calls e)
+  requests_of world e = requests (endpoint_of e) setting.eid (timing_of setting e) setting.pace (world.calls e)
 
   -- the request that an accepted open makes
-  abbrev pub asked_by : World → ℕ → ℕ → Command → Asked
-  asked_by world moment e command =
+  abbrev pub asked_by : World → ℕ → ℕ → Ask → Asked
+  asked_by world moment e ask =
       let own = (requests_of world e).count in
-      record { source = e; own = own; opening = moment; message = message_of own command }
+      record { source = e; own = own; opening = moment; message = message_with own ask }
 
   -- an open happens on the link where the requester accepts it
-  abbrev pub log_opened : World → ℕ → ℕ → Command → List Happening
-  log_opened world moment e command =
+  abbrev pub log_opened : World → ℕ → ℕ → Ask → List Happening
+  log_opened world moment e ask =
       if accepts (timing_of setting e).keep setting.pace (requests_of world e) moment
-      then Opened (asked_by world moment e command) ∷ world.log
+      then Opened (asked_by world moment e ask) ∷ world.log
       else world.log
 
   -- packet j of the message that answered a request; `None` where none did
@@ -102,9 +102,9 @@ module _ {S : Type 0} (setting : BothEnds S) where
 
   -- what a step makes of the world
   abbrev pub done : World → ℕ → Action → World
-  done world moment (Open e command) =
-      let opens = requester.Open moment command in
-      record { calls = with_call world.calls e opens; log = log_opened world moment e command }
+  done world moment (Open e ask) =
+      let opens = requester.OpenRequest moment ask in
+      record { calls = with_call world.calls e opens; log = log_opened world moment e ask }
   done world moment (Tick e) = record { calls = with_call world.calls e (requester.Tick moment); log = world.log }
   done world moment (Request k) = record { calls = world.calls; log = Delivered moment k ∷ world.log }
   done world moment (Reply j k) = handed world moment (source_of (asked_at world.log k)) (reply_packet world k j)
@@ -131,7 +131,7 @@ module _ {S : Type 0} (setting : BothEnds S) where
       (r : Asked) → asked_at world.log k ≡ Some r → ComesInTime S setting.window setting.keep setting.pace.lifetime world.log moment k r
   IsTimelyAction world moment (Reply j k) = (bytes : List ℕ) → reply_packet world k j ≡ Some bytes → TagIsOwn world k
   IsTimelyAction world moment (Busy k) = (bytes : List ℕ) → busy_packet world k ≡ Some bytes → TagIsOwn world k
-  IsTimelyAction world moment (Open e command) = Unit {0}
+  IsTimelyAction world moment (Open e ask) = Unit {0}
   IsTimelyAction world moment (Tick e) = Unit {0}
   IsTimelyAction world moment (Sense id value) = Unit {0}
   IsTimelyAction world moment Restart = Unit {0}

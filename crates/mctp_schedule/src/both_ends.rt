@@ -12,7 +12,8 @@ ghost use Rattle.mctp_schedule.specs.HeldRuns.{held_by};
 ghost use Rattle.mctp_schedule.specs.Running.{CanGoOn, HasDone, answer_action, at};
 ghost use Rattle.mctp_schedule.specs.Runs.{newest_first, setting_of_run};
 ghost use Rattle.schedule_text.specs.StepColumns.{borrowed_step};
-ghost use Rattle.schedule_text.specs.declared.step.Action.TheVariants as actions;
+ghost use Rattle.mctp_schedule.specs.Actions.{as_step, open_for};
+ghost use Rattle.mctp_schedule.specs.Actions as actions;
 
 use crate::arrivals::{Arrivals, instance_id};
 use crate::askers::MAX_REQUEST_PACKET_BYTES;
@@ -187,9 +188,9 @@ struct Ends<'a, P: Platform> {
 impl<'a, P: Platform> Ends<'a, P> {
     /// Takes a step.
     fn run_step(&mut self, step: &StepRef<'_>) -> Result<(), Memory>
-        requires { CanGoOn (rules_of P.answer P.after P.sensed) (held_by self.old) (borrowed_step step.now) }
+        requires { CanGoOn (rules_of P.answer P.after P.sensed) (held_by self.old) (as_step (borrowed_step step.now)) }
         ensures { OnOk result (HasDone (rules_of P.answer P.after P.sensed) P.performed (held_by self.old)
-            (borrowed_step step.now) (held_by self.new)) }
+            (as_step (borrowed_step step.now)) (held_by self.new)) }
     {
         let now = step.moment;
         match &step.action {
@@ -208,9 +209,9 @@ impl<'a, P: Platform> Ends<'a, P> {
     /// A requester opens a request.
     fn open(&mut self, now: Moment, eid: Eid, command: &Command) -> Result<(), Memory>
         requires { CanGoOn (rules_of P.answer P.after P.sensed) (held_by self.old)
-            (at now (actions.Open eid command.now)) }
+            (at now (open_for eid command.now)) }
         ensures { OnOk result (HasDone (rules_of P.answer P.after P.sensed) P.performed (held_by self.old)
-            (at now (actions.Open eid command.now)) (held_by self.new)) }
+            (at now (open_for eid command.now)) (held_by self.new)) }
     {
         pldm_requester::laws::looks_back();
         pldm_wire::laws::commands_are_read_back();

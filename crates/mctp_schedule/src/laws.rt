@@ -1,6 +1,6 @@
 //! Laws of both ends, over the definitions alone: each function does nothing and ensures its law.
 
-ghost use Rattle.pldm_responder.specs.Performing.{rules_of};
+ghost use Rattle.pldm_responder.specs.Performing.{Rules};
 ghost use Rattle.mctp_schedule.specs.BothWays.{EachWayIsInOrder, EachWayPerformsOnce, EachWayTakesTheOneReply};
 ghost use Rattle.mctp_schedule.specs.InWindow.{InWindowByTheRule};
 ghost use Rattle.mctp_schedule.specs.PacedHeadline.{HeadlineAtEveryPace};
@@ -21,13 +21,14 @@ pub fn fresh_deliveries_are_first<P: Platform>()
 {}
 
 /// Over a timely log the responder's state is that of performing each request once, at its first
-/// arrival, and all deliveries of a request while the responder serves get its one reply.
+/// arrival, and all deliveries of a request while the responder serves get its one reply; also of a device to which
+/// requests are handed on as bytes.
 pub fn performs_once<P: Platform>()
-    ensures state { StateIsOnce (rules_of P.answer P.after P.sensed) }
-    ensures not_again { NotPerformedAgain (rules_of P.answer P.after P.sensed) }
-    ensures delivery { DeliveryIsExpected (rules_of P.answer P.after P.sensed) }
-    ensures given { GivenIsTheReply (rules_of P.answer P.after P.sensed) }
-    ensures fits { TheReplyFits (rules_of P.answer P.after P.sensed) }
+    ensures state { (device : Rules P.State) → StateIsOnce device }
+    ensures not_again { (device : Rules P.State) → NotPerformedAgain device }
+    ensures delivery { (device : Rules P.State) → DeliveryIsExpected device }
+    ensures given { (device : Rules P.State) → GivenIsTheReply device }
+    ensures fits { (device : Rules P.State) → TheReplyFits device }
 {}
 
 /// Over a timely schedule whose requesters go by the keeping time the log of what happened on the link is timely, so the
@@ -111,7 +112,7 @@ pub fn each_way_takes_the_one_reply<P: Platform, Q: Platform>()
 
 /// Over such a schedule the state of each end is that of performing once each the requests that arrived there.
 pub fn each_way_performs_once<P: Platform, Q: Platform>()
-    ensures { EachWayPerformsOnce (rules_of P.answer P.after P.sensed) (rules_of Q.answer Q.after Q.sensed) }
+    ensures { (near : Rules P.State) (far : Rules Q.State) → EachWayPerformsOnce near far }
 {
     paced_logs_are_timely::<P>();
     paced_logs_are_timely::<Q>();

@@ -16,9 +16,11 @@ use Rattle.mctp_schedule.specs.PerformedCommands.{commands_at_step, commands_per
 use Rattle.mctp_schedule.specs.Runs.{newest_first, setting_of_run}
 use Rattle.mctp_schedule.specs.Worlds.{NeverWentBack, is_timely, world}
 use Rattle.schedule_text.specs.StepColumns.{borrowed_step}
+use Rattle.mctp_schedule.specs.Actions.{as_action, as_steps}
 use Rattle.pldm_wire.specs.declared.command.Command.{Command}
 use Rattle.mctp_schedule.proofs.CommandsPerformed.{commands_added}
 use Rattle.mctp_schedule.proofs.HeadlineHolds.{Halves, run_is_headline}
+use Rattle.mctp_schedule.proofs.SpelledAsks.{spelled_asks}
 use Rattle.mctp_schedule.proofs.ReportedRequests.{requests_are}
 use Rattle.mctp_schedule.proofs.RunsBegin.{begins, done_more, may_come}
 use Rattle.mctp_schedule.proofs.both_ends.run.Goals as goal
@@ -56,7 +58,7 @@ run_step-requires g c =
     let step = borrowed_step c.in-Some.step in
     let valid = c.steps-steps.ensures.valid in
     let all = i.all ∙ ap (λ rest. i.done ++ rest) c.in-Some.ensures.steps in
-    (terms, reverse i.done, i.runs, may_come schedule.requesters schedule.steps i.done c.next.new.self step all valid.in_order valid.known)
+    (terms, as_steps (reverse i.done), i.runs, may_come schedule.requesters schedule.steps i.done c.next.new.self step all valid.in_order valid.known)
 
 pub loop-step-preserved : goal.loop-step-preserved
 loop-step-preserved g c =
@@ -68,7 +70,7 @@ loop-step-preserved g c =
     let valid = c.steps-steps.ensures.valid in
     let all = i.all ∙ ap (λ rest. i.done ++ rest) c.in-Some.ensures.steps in
     let may = may_come schedule.requesters schedule.steps i.done c.next.new.self step all valid.in_order valid.known in
-    let runs = c.in_ok-run_step.ensures.goes_on terms (reverse i.done) i.runs may in
+    let runs = c.in_ok-run_step.ensures.goes_on terms (as_steps (reverse i.done)) i.runs may in
     let more = sym (done_more i.done step) in
     record {
       done = i.done ++ step ∷ [];
@@ -76,11 +78,11 @@ loop-step-preserved g c =
       in_order = subst NeverWentBack more (may.later, i.in_order);
       runs = subst (λ past. IsRunning setting past (held_by c.run_step.new.self)) more runs;
       performed = subst (λ past. g.P.Platform.performed c.args.setup.device (commands_performed g.row.P-State.Denot c.args.setup.window c.args.setup.keep (world setting past).log) c.run_step.new.self.responder.platform) more
-          (subst (λ (cs : List Command). g.P.Platform.performed c.args.setup.device cs c.run_step.new.self.responder.platform) (sym (commands_added setting (world setting (reverse i.done)) step.moment step.action))
+          (subst (λ (cs : List Command). g.P.Platform.performed c.args.setup.device cs c.run_step.new.self.responder.platform) (sym (commands_added setting (world setting (as_steps (reverse i.done))) step.moment (as_action step.action)))
           (g.met.P.Platform.performed_in_turn c.args.setup.device c.loop-step.ends.responder.platform c.run_step.new.self.responder.platform
-          (commands_performed g.row.P-State.Denot c.args.setup.window c.args.setup.keep (world setting (reverse i.done)).log)
-          (commands_at_step g.row.P-State.Denot c.args.setup.window c.args.setup.keep (world setting (reverse i.done)).log step.moment step.action)
-          i.performed (c.in_ok-run_step.ensures.performs terms (reverse i.done) i.runs may)));
+          (commands_performed g.row.P-State.Denot c.args.setup.window c.args.setup.keep (world setting (as_steps (reverse i.done))).log)
+          (commands_at_step g.row.P-State.Denot c.args.setup.window c.args.setup.keep (world setting (as_steps (reverse i.done))).log step.moment (as_action step.action))
+          i.performed (c.in_ok-run_step.ensures.performs terms (as_steps (reverse i.done)) i.runs may)));
     }
 
 pub returns-clause-report : goal.returns-clause-report
@@ -88,8 +90,8 @@ returns-clause-report g c =
     let schedule = c.args.schedule.now in
     let setting = setting_of_run (rules_of g.P.Platform.answer g.P.Platform.after g.P.Platform.sensed) (g.P.Platform.state c.args.setup.device) c.args.setup.eid c.args.setup.keep c.args.setup.window schedule in
     let i = c.loop-step.invariant in
-    let all = ap reverse (sym (i.all ∙ ap (λ rest. i.done ++ rest) c.in-None.ensures.steps.0 ∙ append-nil i.done)) in
-    let past = reverse i.done in
+    let all = ap (λ steps. as_steps (reverse steps)) (sym (i.all ∙ ap (λ rest. i.done ++ rest) c.in-None.ensures.steps.0 ∙ append-nil i.done)) in
+    let past = as_steps (reverse i.done) in
     let runs = c.loop-step.invariant.runs in
     let journal = c.loop-step.ends.journal in
     let both = c.requesters_take_the_one_reply.ensures in
@@ -97,8 +99,8 @@ returns-clause-report g c =
     let halves : Halves setting = record {
       log = c.paced_logs_are_timely.ensures setting;
       tested = c.logs_are_timely.ensures.tested setting;
-      state = once.state;
-      delivery = once.delivery;
+      state = once.state setting.device;
+      delivery = once.delivery setting.device;
       order = c.fresh_deliveries_are_first.ensures.order;
       fresh = c.fresh_deliveries_are_first.ensures.fresh;
       reply = both.reply setting;
@@ -118,5 +120,5 @@ returns-clause-report g c =
       headline = λ timely.
           subst (λ s. Headline setting (newest_first schedule) journal.entries journal.requests.items journal.order.items s has_performed) (sym c.into_platform-device.ensures.state)
           (subst (λ steps. Headline setting steps journal.entries journal.requests.items journal.order.items (held_of c.loop-step.ends.responder).state has_performed) all
-          (run_is_headline setting past (held_by c.loop-step.ends) runs (λ kind. refl) halves has_performed given c.loop-step.invariant.in_order timely));
+          (run_is_headline setting past (held_by c.loop-step.ends) runs (spelled_asks (reverse i.done)) halves has_performed given c.loop-step.invariant.in_order timely));
     }

@@ -7,7 +7,7 @@ use Rattle.pldm_requester.specs.Steps.{IsHeld, opened_held, opening_answer}
 use Rattle.mctp_schedule.specs.Askers.{IsOpenedAs, IsSent, Side}
 use Rattle.mctp_schedule.specs.HeldRuns.{held_by}
 use Rattle.mctp_schedule.specs.Running.{IsRunning, setting_of}
-use Rattle.schedule_text.specs.declared.step.Action.TheVariants as actions
+use Rattle.mctp_schedule.specs.Actions.{open_for}
 use Rattle.mctp_schedule.proofs.AfterCall.{with_side, place_holds}
 use Rattle.mctp_schedule.proofs.AfterOpen.{opened_runs, refused_runs}
 use Rattle.mctp_schedule.proofs.AskerCalls.{has_packet, sent_is}
@@ -63,7 +63,7 @@ returns-in_ok-enter_opened-in-Ok g c = record {
       let counted : c.len-number.result ≡ length c.args.self.now.journal.requests.items = (let l = c.len-number.ensures in omega (arith, l)) in
       let numbers = subst (λ o. OnOk o (c.open.new.self.numbers ≡ asker.numbers ++ c.len-number.result ∷ [])) c.in-Ok.is opening.numbers in
       let entered = c.in_ok-enter_opened-in-Ok.ensures in
-      subst (λ i. IsRunning setting (record { moment = c.args.now; action = actions.Open e c.args.command.now } ∷ past) (with_side (held_by c.args.self.now) i c.open.new.self c.enter_opened.new.self)) (sym at)
+      subst (λ i. IsRunning setting (record { moment = c.args.now; action = open_for e c.args.command.now } ∷ past) (with_side (held_by c.args.self.now) i c.open.new.self c.enter_opened.new.self)) (sym at)
       (opened_runs setting past (held_by c.args.self.now) c.enter_opened.new.self running c.args.now may.later e may.known c.args.command.now c.open.new.self
       c.looks_back.ensures.open c.looks_back.ensures.same c.commands_are_read_back.ensures.written_reads_back c.messages_fit.ensures.command c.sent.result
       (record {
@@ -93,7 +93,7 @@ returns-in_ok-enter-in-Err g c = record {
       let refused = subst (λ o. IfErr o (λ f. opening_answer (held_of asker.station) c.args.now ≡ Err f)) c.in-Err.is opening.refused in
       let kept = subst (λ o. IfErr o (λ f. IsHeld (held_of c.open.new.self.station) (held_of asker.station) × (c.open.new.self.numbers ≡ asker.numbers))) c.in-Err.is opening.same in
       let entered = c.in_ok-enter-in-Err.ensures in
-      subst (λ i. IsRunning setting (record { moment = c.args.now; action = actions.Open e c.args.command.now } ∷ past) (with_side (held_by c.args.self.now) i c.open.new.self c.enter.new.self)) (sym at)
+      subst (λ i. IsRunning setting (record { moment = c.args.now; action = open_for e c.args.command.now } ∷ past) (with_side (held_by c.args.self.now) i c.open.new.self c.enter.new.self)) (sym at)
       (refused_runs setting past (held_by c.args.self.now) c.enter.new.self running c.args.now may.later e may.known c.args.command.now c.open.new.self
       c.looks_back.ensures.open c.looks_back.ensures.same fault
       (record {

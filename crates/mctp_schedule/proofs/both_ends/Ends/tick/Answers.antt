@@ -11,7 +11,7 @@ use Rattle.mctp_schedule.specs.Entries.{due_over_all, numbered, numbers_of}
 use Rattle.mctp_schedule.specs.HeldRuns.{held_by}
 use Rattle.mctp_schedule.specs.Running.{IsRunning, setting_of}
 use Rattle.mctp_schedule.specs.Worlds.{world}
-use Rattle.schedule_text.specs.declared.step.Action.TheVariants as actions
+use Rattle.mctp_schedule.specs.Actions as actions
 use Rattle.mctp_schedule.proofs.LoggedRequests.{asked_below}
 use Rattle.mctp_schedule.proofs.AskerCalls.{recent_below}
 use Rattle.mctp_schedule.proofs.AfterCall.{with_side, place_holds}

@@ -1,0 +1,215 @@
+-- Over a schedule each piece that a firmware device takes is one of its agent's file.
+use Rattle.std.proofs.Common.{◌≡◌, ℕ, ◌+◌, ◌^◌, ◌<◌, ◌≤◌, Bool, true, false, List, [], ◌∷◌, ◌++◌, length, Option, Some, None, Ok, refl, sym, ap, subst, ◌∙◌, arith}
+use Rattle.std.specs.Prelude.{take, drop, replicate, if◌then◌else◌}
+use Rattle.std.proofs.lemmas.Bool.{cond-true}
+use Rattle.std.proofs.lemmas.List.{take-append-le, length-drop}
+use Rattle.pldm_requester.specs.Courses.{Answered as HasAnswered}
+use Rattle.pldm_requester.specs.Numbering.{id_of, message_with}
+use Rattle.pldm_responder.specs.Performing.{Response as Responded, answer_to, reply, reply_to, response_to}
+use Rattle.pldm_wire.specs.Answers.{answer_message}
+use Rattle.pldm_wire.specs.CommandReading.{command_of}
+use Rattle.pldm_wire.specs.Requests.{request}
+use Rattle.pldm_wire.specs.Responses.{Response, response, response_of}
+use Rattle.pldm_wire.specs.declared.assigned.TheConstants.{SUCCESS}
+use Rattle.pldm_update.specs.declared.command.UpdateCommand.TheVariants.{RequestFirmwareData}
+use Rattle.pldm_update.specs.declared.device_stage.DeviceRequest.{DeviceRequest}
+use Rattle.pldm_update.specs.declared.device_stage.DeviceRequest.TheVariants.{Piece}
+use Rattle.pldm_update.specs.declared.device_stage.Stage.{Stage}
+use Rattle.pldm_update.specs.declared.device_stage.Stage.TheVariants.{Idle, Learning, Ready, Beginning, Fetching, Storing, Fetched, Failed, Verifying, Verified, Applying, Applied, Activating}
+use Rattle.pldm_update.specs.declared.flash.FlashAction.{FlashAction}
+use Rattle.pldm_update.specs.declared.flash.FlashAction.TheVariants.{Store, Begin, Verify, Apply, Activate, Abandon, AbandonUpdate}
+use Rattle.pldm_update.specs.Commands.{command_data}
+use Rattle.pldm_update.specs.Deeds.{Deed, Reports, size_begun}
+use Rattle.pldm_update.specs.DeviceCalls.{Call, Question, RequestUpdate, PassComponent, UpdateComponent, ActivateFirmware, CancelComponent, CancelUpdate, Opened, Answered, GaveUp, Done, Tick, Restart, added, deeds, happens, last_asked, machine, or_last, with_deed}
+use Rattle.pldm_update.specs.DeviceLaws.{IsServed, IsServedSince, VerifiedIsWhole, begins}
+use Rattle.pldm_update.specs.ImagePieces.{piece}
+use Rattle.pldm_update.specs.Machines.{Machine, piece_length, wish, wish_at}
+use Rattle.pldm_update.proofs.DeedsInOrder.{size_where_fetching}
+use Rattle.pldm_update.proofs.OwnPieces.{all_asked, question}
+use Rattle.mctp_schedule.specs.Actions.{Action, Step}
+use Rattle.mctp_schedule.specs.FirstArrivals.{first}
+use Rattle.mctp_schedule.specs.Logs.{Happening}
+use Rattle.mctp_schedule.specs.OncePerformed.{once}
+use Rattle.mctp_schedule.specs.RequesterHalf.{AnsweredWasPerformed, IsTimelySchedule}
+use Rattle.mctp_schedule.specs.Worlds.{BothEnds, World, done, requests_of, world}
+use Rattle.mctp_schedule.proofs.AnsweredWhereTaken.{sound_before}
+use Rattle.mctp_schedule.proofs.KnownRequests.{asked_stays_done, stays_done}
+use Rattle.mctp_schedule.proofs.RepliesAreTaken.{answer_read, request_read}
+use Rattle.mctp_schedule.proofs.UntouchedRequests.{first_more}
+use Rattle.pldm_wire.specs.Laws.{RequestReadBack, ResponseReadBack}
+use Rattle.endpoint_schedule.specs.UpdatesOverSchedules.{AtDevice, GivesPieces, HasAnswer, HasAsked, ImageOverSchedules, IsUpdate, IsUpdateStep, OnLink, UpdateStep, device_calls, link_steps, piece_ask, piece_kind, world_at}
+
+-- ---- which pieces are asked for
+piece_wished : (stage : Stage) (m : Machine) (offset count : ℕ) → wish_at stage m ≡ Some (Piece offset count) → (stage ≡ Fetching) × (offset ≡ m.stored) × (count ≡ piece_length m)
+piece_wished Fetching m offset count e = (refl, cc, cc)
+piece_wished Idle m offset count e = absurd (cc)
+piece_wished Learning m offset count e = absurd (cc)
+piece_wished Ready m offset count e = absurd (cc)
+piece_wished Beginning m offset count e = absurd (cc)
+piece_wished (Storing n) m offset count e = absurd (cc)
+piece_wished Fetched m offset count e = absurd (cc)
+piece_wished Failed m offset count e = absurd (cc)
+piece_wished Verifying m offset count e = absurd (cc)
+piece_wished (Verified good) m offset count e = absurd (cc)
+piece_wished Applying m offset count e = absurd (cc)
+piece_wished (Applied well) m offset count e = absurd (cc)
+piece_wished Activating m offset count e = absurd (cc)
+
+-- ---- the size of the image that is under way, before a call that begins no transfer
+deed_size : (size : ℕ) (action : Option FlashAction) (bytes : List ℕ) (past : List Deed) → size_begun (with_deed action bytes past) ≡ Some size → begins action ≡ false → size_begun past ≡ Some size
+deed_size size None bytes past e none = e
+deed_size size (Some (Begin begun)) bytes past e none = absurd (cc)
+deed_size size (Some (Store offset)) bytes past e none = e
+deed_size size (Some Verify) bytes past e none = e
+deed_size size (Some Apply) bytes past e none = e
+deed_size size (Some Activate) bytes past e none = absurd (cc)
+deed_size size (Some Abandon) bytes past e none = absurd (cc)
+deed_size size (Some AbandonUpdate) bytes past e none = absurd (cc)
+
+report_size : (size : ℕ) (b well : Bool) (past : List Deed) → size_begun (if b then Reports well ∷ past else past) ≡ Some size → size_begun past ≡ Some size
+report_size size true well past e = e
+report_size size false well past e = e
+
+size_before : (size : ℕ) (m : Machine) (call : Call) (past : List Deed) → size_begun (added m call past) ≡ Some size → begins (happens m call).action ≡ false → size_begun past ≡ Some size
+size_before size m (Answered number now code bytes) past e none = deed_size size (happens m (Answered number now code bytes)).action bytes past e none
+size_before size m (Done number well) past e none = report_size size _ well past e
+size_before size m (Restart anew) past e none = absurd (cc)
+size_before size m call past e none = deed_size size (happens m call).action [] past e none
+
+-- a piece within the file has no zeros of its own
+piece_is : (file : List ℕ) (offset count : ℕ) → offset + count ≤ length file → piece file offset count ≡ take count (drop offset file)
+piece_is file offset count fits =
+    let long = length-drop offset file in
+    take-append-le count (drop offset file) (replicate count 0) (omega (arith, long, fits))
+
+-- the laws below
+pub record Lower {S : Type 0} (setting : BothEnds S) : Type 0 where
+  pub requests : RequestReadBack
+  pub responses : ResponseReadBack
+  pub performed : AnsweredWasPerformed setting
+  pub whole : VerifiedIsWhole
+
+module _ {S : Type 0} (setting : BothEnds S) (lower : Lower setting) (file : List ℕ) (earlier : List Step) (e latest : ℕ) (handed : setting.device.hands_on piece_kind ≡ true) where
+  abbrev Asks : World → ℕ → ℕ → ℕ → Type 0
+  Asks w number offset count = HasAsked setting earlier e latest w number offset count
+
+  abbrev at : List UpdateStep → World
+  at past = world_at setting earlier e latest past
+
+  abbrev Updates : List UpdateStep → Type 0
+  Updates past = IsUpdate setting earlier e latest past
+
+  -- ---- what the request that was opened last asks
+  still_asks : (w : World) (moment : ℕ) (action : Action) (number offset count : ℕ) → Asks w number offset count → Asks (done setting w moment action) number offset count
+  still_asks w moment action number offset count x = record {
+    k = x.k;
+    r = x.r;
+    asked = asked_stays_done setting w moment action x.k x.r x.asked;
+    source = x.source;
+    own = x.own;
+    message = x.message;
+  }
+
+  opened_asks : (past : List UpdateStep) (number now : ℕ) → IsUpdateStep setting earlier e latest past (AtDevice (Opened number now)) → (n offset count : ℕ)
+      → (last_asked latest (device_calls past) ≡ Some (question n (Piece offset count)) → Asks (at past) n offset count)
+      → or_last (wish (machine latest (device_calls past)) now) number (last_asked latest (device_calls past)) ≡ Some (question n (Piece offset count)) → Asks (at past) n offset count
+  opened_asks past number now opens n offset count before is = go (wish (machine latest (device_calls past)) now) refl is
+    where
+      go : (wished : Option DeviceRequest) → wish (machine latest (device_calls past)) now ≡ wished → or_last wished number (last_asked latest (device_calls past)) ≡ Some (question n (Piece offset count)) → Asks (at past) n offset count
+      go None w is' = before is'
+      go (Some asks) w is' =
+          let same : question number asks ≡ question n (Piece offset count) = cc in
+          subst (λ j. Asks (at past) j offset count) (ap (λ (q : Question). q.number) same) (opens offset count (w ∙ ap (λ (q : Question). Some q.request) same))
+
+  last_asks : (past : List UpdateStep) → Updates past → (n offset count : ℕ) → last_asked latest (device_calls past) ≡ Some (question n (Piece offset count)) → Asks (at past) n offset count
+  last_asks [] u n offset count is = absurd (cc)
+  last_asks (OnLink step ∷ past) u n offset count is = still_asks (at past) step.moment step.action n offset count (last_asks past u.1 n offset count is)
+  last_asks (AtDevice (Opened number now) ∷ past) u n offset count is = opened_asks past number now u.0 n offset count (last_asks past u.1 n offset count) is
+  last_asks (AtDevice (Restart anew) ∷ past) u n offset count is = absurd u.0
+  last_asks (AtDevice (RequestUpdate source now most total) ∷ past) u n offset count is = last_asks past u.1 n offset count is
+  last_asks (AtDevice (PassComponent source now part) ∷ past) u n offset count is = last_asks past u.1 n offset count is
+  last_asks (AtDevice (UpdateComponent source now size room) ∷ past) u n offset count is = last_asks past u.1 n offset count is
+  last_asks (AtDevice (ActivateFirmware source now) ∷ past) u n offset count is = last_asks past u.1 n offset count is
+  last_asks (AtDevice (CancelComponent source now) ∷ past) u n offset count is = last_asks past u.1 n offset count is
+  last_asks (AtDevice (CancelUpdate source) ∷ past) u n offset count is = last_asks past u.1 n offset count is
+  last_asks (AtDevice (Answered number now code bytes) ∷ past) u n offset count is = last_asks past u.1 n offset count is
+  last_asks (AtDevice (GaveUp number) ∷ past) u n offset count is = last_asks past u.1 n offset count is
+  last_asks (AtDevice (Done number well) ∷ past) u n offset count is = last_asks past u.1 n offset count is
+  last_asks (AtDevice (Tick now) ∷ past) u n offset count is = last_asks past u.1 n offset count is
+
+  -- ---- what the requester has as the answer is what the agent's end gave at the request's one arrival
+  piece_given : (steps : List Step) → IsTimelySchedule setting steps → GivesPieces setting file (world setting steps) → (number code offset count : ℕ) (bytes : List ℕ) → offset < 2 ^ 32 → count < 2 ^ 32
+      → HasAnswer setting earlier e latest (world setting steps) number code bytes → Asks (world setting steps) number offset count → code ≡ SUCCESS → bytes ≡ piece file offset count
+  piece_given steps s gives number code offset count bytes low few a q well =
+      let w = world setting steps in
+      let progress : ((requests_of setting w q.r.source).each q.r.own).course.progress ≡ HasAnswered a.message = (λ i. ((requests_of setting w (q.source i)).each (q.own i)).course.progress) ∙ a.progress in
+      let performed = lower.performed steps q.k q.r a.message s q.asked progress in
+      let state = once setting.device setting.keep setting.start performed.place in
+      let id = id_of q.r.own in
+      let asks = request id piece_kind (command_data (RequestFirmwareData offset count)) in
+      let given : Responded = setting.device.respond state asks in
+      let message : q.r.message ≡ message_with q.r.own (piece_ask offset count) = q.message ∙ ap (λ n. message_with n (piece_ask offset count)) (sym q.own) in
+      let read = request_read lower.requests q.r.own (piece_ask offset count) (omega arith) in
+      let replied : reply setting.device state q.r.message ≡ response_to asks given =
+      ap (reply setting.device state) message ∙ ap (reply_to setting.device state) read
+      ∙ cond-true (setting.device.hands_on piece_kind) (response_to asks given) (answer_message id piece_kind (answer_to setting.device state (command_of piece_kind (command_data (RequestFirmwareData offset count))))) handed in
+      let back = answer_read lower.responses q.r.own (piece_ask offset count) (omega arith) given.code given.rest in
+      let both : Ok a.response ≡ Ok (response id piece_kind given.code given.rest) = sym a.read ∙ ap (λ m. response_of m) (performed.answer ∙ replied) ∙ back in
+      let same : a.response ≡ response id piece_kind given.code given.rest = cc in
+      let success : given.code ≡ SUCCESS = ap (λ (x : Response). x.code) (sym same) ∙ a.code_is ∙ well in
+      sym a.rest_is ∙ ap (λ (x : Response). x.rest) same ∙ gives q.k offset count q.r performed.place given low few q.asked message performed.arrived refl success
+
+  gives_before : (step : Step) (steps : List Step) → GivesPieces setting file (world setting (step ∷ steps)) → GivesPieces setting file (world setting steps)
+  gives_before step steps gives k offset count r place given low few is message came =
+      gives k offset count r place given low few
+      (asked_stays_done setting (world setting steps) step.moment step.action k r is)
+      message
+      (stays_done setting (λ (log : List Happening). first S setting.keep log k ≡ Some place) (λ h log f. first_more S setting.keep h log k place f) (world setting steps) step.moment step.action came)
+
+  schedule_before : (step : Step) (steps : List Step) → IsTimelySchedule setting (step ∷ steps) → IsTimelySchedule setting steps
+  schedule_before step steps s = record { order = s.order.1; timely = s.timely.1; sound = sound_before setting step steps s.sound }
+
+  -- ---- so each piece that counts is of the file
+  module _ (past : List UpdateStep) (s : IsTimelySchedule setting (link_steps past ++ earlier)) (gives : GivesPieces setting file (world setting (link_steps past ++ earlier))) (u : Updates past) (small : length file < 2 ^ 32) (size : size_begun (deeds latest (device_calls past)) ≡ Some (length file)) where
+    piece_served : (number now code : ℕ) (bytes : List ℕ) → HasAnswer setting earlier e latest (at past) number code bytes
+        → IsServed file (machine latest (device_calls past)) (last_asked latest (device_calls past)) (Answered number now code bytes)
+    piece_served number now code bytes has offset count asked last well counts =
+        let calls = device_calls past in
+        let m = machine latest calls in
+        let wished = all_asked latest calls number asked in
+        let both : Some (question number wished.0) ≡ Some (question number (Piece offset count)) = sym wished.2 ∙ last in
+        let same : question number wished.0 ≡ question number (Piece offset count) = cc in
+        let there = piece_wished m.stage m offset count (wished.1 ∙ ap (λ (q : Question). Some q.request) same) in
+        let sized = size_where_fetching latest calls there.0 in
+        let sizes : Some m.size ≡ Some (length file) = sym sized.0 ∙ size in
+        let long : m.size ≡ length file = cc in
+        let low : offset < 2 ^ 32 = omega (arith, there.1, there.2, sized.1, long, small) in
+        let few : count < 2 ^ 32 = omega (arith, there.1, there.2, sized.1, long, small) in
+        let is = piece_given (link_steps past ++ earlier) s gives number code offset count bytes low few has (last_asks past u number offset count last) well in
+        is ∙ piece_is file offset count (omega (arith, there.1, there.2, sized.1, long))
+
+    is_served : (call : Call) → IsUpdateStep setting earlier e latest past (AtDevice call) → IsServed file (machine latest (device_calls past)) (last_asked latest (device_calls past)) call
+    is_served (Answered number now code bytes) has = piece_served number now code bytes has
+    is_served (RequestUpdate source now most total) has = tt
+    is_served (PassComponent source now part) has = tt
+    is_served (UpdateComponent source now total room) has = tt
+    is_served (ActivateFirmware source now) has = tt
+    is_served (CancelComponent source now) has = tt
+    is_served (CancelUpdate source) has = tt
+    is_served (Opened number now) has = tt
+    is_served (GaveUp number) has = tt
+    is_served (Done number well) has = tt
+    is_served (Tick now) has = tt
+    is_served (Restart anew) has = tt
+
+  served : (past : List UpdateStep) → IsTimelySchedule setting (link_steps past ++ earlier) → GivesPieces setting file (world setting (link_steps past ++ earlier)) → Updates past → length file < 2 ^ 32
+      → size_begun (deeds latest (device_calls past)) ≡ Some (length file) → IsServedSince file latest (device_calls past)
+  served [] s gives u small size = tt
+  served (OnLink step ∷ past) s gives u small size = served past (schedule_before step (link_steps past ++ earlier) s) (gives_before step (link_steps past ++ earlier) gives) u.1 small size
+  served (AtDevice call ∷ past) s gives u small size = λ none.
+      let before = size_before (length file) (machine latest (device_calls past)) call (deeds latest (device_calls past)) size none in
+      (is_served past s gives u.1 small before call u.0, served past s gives u.1 small before)
+
+pub images_are_offered : {S : Type 0} (setting : BothEnds S) → Lower setting → ImageOverSchedules setting
+images_are_offered setting lower file earlier e latest past call s handed gives u small size verify =
+    lower.whole file latest (device_calls past) call (served setting lower file earlier e latest handed past s gives u small size) size verify
