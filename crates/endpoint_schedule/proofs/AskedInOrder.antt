@@ -1,8 +1,8 @@
 -- Which request is the one of a number: over a log the state of a device that gives an answer for each number is how many
 -- requests asked something of it.
-use Rattle.std.proofs.Common.{◌≡◌, ℕ, ◌+◌, Bool, true, false, List, [], ◌∷◌, ◌++◌, length, Option, Some, None, Result, Ok, Err, refl, sym, ap, ◌∙◌, ⊎_elim, arith}
+use Rattle.std.proofs.Common.{◌≡◌, ◌⊎◌, inl, inr, ℕ, ◌+◌, Bool, true, false, List, [], ◌∷◌, ◌++◌, length, Option, Some, None, Result, Ok, Err, refl, sym, ap, ◌∙◌, ⊎_elim, arith}
 use Rattle.std.specs.Prelude.{◌&&◌, not, is_some, slice_get, if◌then◌else◌}
-use Rattle.std.proofs.lemmas.Bool.{and_parts, not-true}
+use Rattle.std.proofs.lemmas.Bool.{and_parts, cases_eq, cond-true, not-true}
 use Rattle.mctp_packet.specs.declared.reason.Reason.{Reason}
 use Rattle.pldm_endpoint.specs.Histories.{in_turn}
 use Rattle.pldm_endpoint.specs.TwoSteps.{unasked}
@@ -18,8 +18,8 @@ use Rattle.pldm_wire.specs.declared.command.Command.{Command}
 use Rattle.mctp_schedule.specs.FirstArrivals.{arrives, first, is_first}
 use Rattle.mctp_schedule.specs.Logs.{Asked, Happening, Opened, Delivered, Sensed, WentDown, asked_at, reached}
 use Rattle.mctp_schedule.specs.OncePerformed.{bytes_of, once, reply_from, the_reply}
-use Rattle.mctp_schedule.proofs.FirstPerformed.{first_here, is_first_of, never_first}
-use Rattle.mctp_schedule.proofs.ListPlaces.{get_pushed, length_pushed}
+use Rattle.mctp_schedule.proofs.FirstPerformed.{first_below, first_busy, first_here, first_other, first_stays, is_first_of, never_first, request_older}
+use Rattle.mctp_schedule.proofs.ListPlaces.{get_front, get_last, get_pushed, get_within, length_pushed}
 use Rattle.mctp_schedule.proofs.UntouchedRequests.{first_more}
 use Rattle.endpoint_schedule.specs.OverTime.{asks_at, asks_by, asks_device, is_some_task, reply_of, to_hand_out}
 
@@ -126,6 +126,46 @@ module _ (handed : PassThrough) (answers : ℕ → Given) (keep : ℕ) where
   numbered (Sensed moment id value ∷ past) n k is = let x = numbered past n k is in (x.0, first_more ℕ keep (Sensed moment id value) past k x.0 x.1, x.2)
   numbered (WentDown moment ∷ past) n k is = let x = numbered past n k is in (x.0, first_more ℕ keep (WentDown moment) past k x.0 x.1, x.2)
   numbered (Delivered moment j ∷ past) n k is = by_delivery past moment j n k (is_first ℕ keep past moment j && asks_at handed past j) refl is (λ e. numbered past n k e)
+
+  -- and one that asks something is handed out as the one of that number
+  listed_by : (past : List Happening) (moment j k : ℕ) (r : Asked) (place : List Happening) → asked_at past k ≡ Some r → first ℕ keep (Delivered moment j ∷ past) k ≡ Some place → asks_device handed r.message ≡ true
+      → (first ℕ keep past k ≡ Some place → slice_get (to_hand_out handed keep past) (count_of place) ≡ Some k)
+      → slice_get (to_hand_out handed keep (Delivered moment j ∷ past)) (count_of place) ≡ Some k
+  listed_by past moment j k r place e f asks before = go (first ℕ keep past k) refl (cases_eq j k)
+    where
+      listed : List ℕ
+      listed = to_hand_out handed keep past
+
+      still : (b : Bool) → slice_get listed (count_of place) ≡ Some k → slice_get (if b then listed ++ j ∷ [] else listed) (count_of place) ≡ Some k
+      still true is = get_front listed j (count_of place) (get_within listed (count_of place) k is) ∙ is
+      still false is = is
+
+      now : first ℕ keep past k ≡ None → (j ≡ k) → (busy : Bool) → is_busy keep (reached {S = ℕ} past) moment ≡ busy → slice_get (if is_first ℕ keep past moment j && asks_at handed past j then listed ++ j ∷ [] else listed) (count_of place) ≡ Some k
+      now none same true busy = absurd (let wrong : None ≡ Some place = sym none ∙ sym (first_busy ℕ keep past moment j k busy) ∙ f in cc)
+      now none same false idle =
+          let came : first ℕ keep (Delivered moment j ∷ past) k ≡ Some past = ap (λ n. first ℕ keep (Delivered moment n ∷ past) k) same ∙ first_here ℕ keep past moment k r e idle none in
+          let both : Some past ≡ Some place = sym came ∙ f in
+          let there : place ≡ past = cc in
+          let on : (is_first ℕ keep past moment j && asks_at handed past j) ≡ true =
+          ap (λ n. is_first ℕ keep past moment n && asks_at handed past n) same
+          ∙ (λ i. is_first_of (e i) (none i) (idle i) && asks_by handed (e i))
+          ∙ asks in
+          ap (λ xs. slice_get xs (count_of place)) (cond-true (is_first ℕ keep past moment j && asks_at handed past j) (listed ++ j ∷ []) listed on)
+          ∙ ap (slice_get (listed ++ j ∷ [])) (ap count_of there ∙ count_is past)
+          ∙ get_last listed j
+          ∙ ap Some same
+
+      go : (x : Option (List Happening)) → first ℕ keep past k ≡ x → (j ≡ k) ⊎ (j ≡ k → ⊥) → slice_get (if is_first ℕ keep past moment j && asks_at handed past j then listed ++ j ∷ [] else listed) (count_of place) ≡ Some k
+      go (Some p) x _ = still (is_first ℕ keep past moment j && asks_at handed past j) (before (sym (first_stays ℕ keep past moment j k p x) ∙ f))
+      go None x (inr other) = absurd (let wrong : None ≡ Some place = sym x ∙ sym (first_other ℕ keep past moment j k other) ∙ f in cc)
+      go None x (inl same) = now x same (is_busy keep (reached {S = ℕ} past) moment) refl
+
+  pub handed_out_at : (log : List Happening) (k : ℕ) (r : Asked) (place : List Happening) → asked_at log k ≡ Some r → first ℕ keep log k ≡ Some place → asks_device handed r.message ≡ true → slice_get (to_hand_out handed keep log) (count_of place) ≡ Some k
+  handed_out_at [] k r place e f asks = absurd (cc)
+  handed_out_at (Opened q ∷ past) k r place e f asks = handed_out_at past k r place (sym (request_older q past k (first_below ℕ keep past k place f)) ∙ e) f asks
+  handed_out_at (Sensed moment id value ∷ past) k r place e f asks = handed_out_at past k r place e f asks
+  handed_out_at (WentDown moment ∷ past) k r place e f asks = handed_out_at past k r place e f asks
+  handed_out_at (Delivered moment j ∷ past) k r place e f asks = listed_by past moment j k r place e f asks (λ before. handed_out_at past k r place e before asks)
 
   -- what an arrived request is answered, by its number
   pub reply_at : (log : List Happening) (k : ℕ) (r : Asked) (place : List Happening) → asked_at log k ≡ Some r → first ℕ keep log k ≡ Some place → the_reply (device handed answers) keep 0 log k ≡ reply (device handed answers) (count_of place) r.message

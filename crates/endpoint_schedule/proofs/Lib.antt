@@ -11,4 +11,5 @@ pub mod OpenedRuns
 pub mod EventsTaken
 pub mod WorkedEvents
 pub mod OfferedImages
+pub mod OfferedOverLinks
 mod WorkedImages

@@ -78,7 +78,7 @@ still_out before k (taken.Perform handle) n j is = get_front before k n (get_wit
 still_out before k (taken.Respond handle) n j is = get_front before k n (get_within before n j is) ∙ is
 
 module _ (settings : LinkSettings) (answers : ℕ → Given) where
-  asked_stays_after : (l : Link) (step : LinkStep) (k : ℕ) (r : Asked) → asked_at l.world.log k ≡ Some r → asked_at (after settings answers l step).world.log k ≡ Some r
+  pub asked_stays_after : (l : Link) (step : LinkStep) (k : ℕ) (r : Asked) → asked_at l.world.log k ≡ Some r → asked_at (after settings answers l step).world.log k ≡ Some r
   asked_stays_after l (Opens moment e ask) k r is = asked_stays_done (setting settings answers) l.world moment (actions.Open e ask) k r is
   asked_stays_after l (Ticks moment e) k r is = is
   asked_stays_after l (Receives moment j new step) k r is = is
@@ -90,7 +90,7 @@ module _ (settings : LinkSettings) (answers : ℕ → Given) where
   asked_stays_after l (Restarts moment new) k r is = is
   asked_stays_after l (Assigns moment eid new) k r is = is
 
-  out_stays : (l : Link) (step : LinkStep) (n k : ℕ) → slice_get l.handed_out n ≡ Some k → slice_get (after settings answers l step).handed_out n ≡ Some k
+  pub out_stays : (l : Link) (step : LinkStep) (n k : ℕ) → slice_get l.handed_out n ≡ Some k → slice_get (after settings answers l step).handed_out n ≡ Some k
   out_stays l (Opens moment e ask) n k is = is
   out_stays l (Ticks moment e) n k is = is
   out_stays l (Receives moment j new step) n k is = still_out l.handed_out j step n k is
@@ -114,7 +114,7 @@ module _ (settings : LinkSettings) (answers : ℕ → Given) where
   rested_after l (Restarts moment new) rested = rested
   rested_after l (Assigns moment eid new) rested = rested
 
-  sound_before : (l : Link) (step : LinkStep) → IsSoundLink settings answers (after settings answers l step) → IsSoundLink settings answers l
+  pub sound_before : (l : Link) (step : LinkStep) → IsSoundLink settings answers (after settings answers l step) → IsSoundLink settings answers l
   sound_before l step s = record {
     device = s.device;
     sources = λ k r is. s.sources k r (asked_stays_after l step k r is);

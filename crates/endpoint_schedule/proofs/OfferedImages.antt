@@ -1,4 +1,5 @@
--- Over a schedule each piece that a firmware device takes is one of its agent's file.
+-- Over a link each piece that a firmware device takes is one of its agent's file: of any link whose answers are, and so over
+-- a schedule.
 use Rattle.std.proofs.Common.{◌≡◌, ℕ, ◌+◌, ◌^◌, ◌<◌, ◌≤◌, Bool, true, false, List, [], ◌∷◌, ◌++◌, length, Option, Some, None, Ok, refl, sym, ap, subst, ◌∙◌, arith}
 use Rattle.std.specs.Prelude.{take, drop, replicate, if◌then◌else◌}
 use Rattle.std.proofs.lemmas.Bool.{cond-true}
@@ -26,18 +27,19 @@ use Rattle.pldm_update.specs.ImagePieces.{piece}
 use Rattle.pldm_update.specs.Machines.{Machine, piece_length, wish, wish_at}
 use Rattle.pldm_update.proofs.DeedsInOrder.{size_where_fetching}
 use Rattle.pldm_update.proofs.OwnPieces.{all_asked, question}
-use Rattle.mctp_schedule.specs.Actions.{Action, Step}
+use Rattle.mctp_schedule.specs.Actions.{Step}
 use Rattle.mctp_schedule.specs.FirstArrivals.{first}
-use Rattle.mctp_schedule.specs.Logs.{Happening}
+use Rattle.mctp_schedule.specs.Logs.{Asked, Happening, asked_at}
 use Rattle.mctp_schedule.specs.OncePerformed.{once}
 use Rattle.mctp_schedule.specs.RequesterHalf.{AnsweredWasPerformed, IsTimelySchedule}
-use Rattle.mctp_schedule.specs.Worlds.{BothEnds, World, done, requests_of, world}
+use Rattle.mctp_schedule.specs.Worlds.{BothEnds, World, requests_of, world}
 use Rattle.mctp_schedule.proofs.AnsweredWhereTaken.{sound_before}
 use Rattle.mctp_schedule.proofs.KnownRequests.{asked_stays_done, stays_done}
 use Rattle.mctp_schedule.proofs.RepliesAreTaken.{answer_read, request_read}
 use Rattle.mctp_schedule.proofs.UntouchedRequests.{first_more}
 use Rattle.pldm_wire.specs.Laws.{RequestReadBack, ResponseReadBack}
-use Rattle.endpoint_schedule.specs.UpdatesOverSchedules.{AtDevice, GivesPieces, HasAnswer, HasAsked, ImageOverSchedules, IsUpdate, IsUpdateStep, OnLink, UpdateStep, device_calls, link_steps, piece_ask, piece_kind, world_at}
+use Rattle.endpoint_schedule.specs.FirmwareDevices.{AtDevice, HasAnswer, HasAsked, IsUpdate, IsUpdateStep, OnLink, UpdateStep, device_calls, link_steps, piece_ask, piece_kind}
+use Rattle.endpoint_schedule.specs.UpdatesOverSchedules.{GivesPieces, ImageOverSchedules, over_schedule}
 
 -- ---- which pieces are asked for
 piece_wished : (stage : Stage) (m : Machine) (offset count : ℕ) → wish_at stage m ≡ Some (Piece offset count) → (stage ≡ Fetching) × (offset ≡ m.stored) × (count ≡ piece_length m)
@@ -89,57 +91,103 @@ pub record Lower {S : Type 0} (setting : BothEnds S) : Type 0 where
   pub performed : AnsweredWasPerformed setting
   pub whole : VerifiedIsWhole
 
-module _ {S : Type 0} (setting : BothEnds S) (lower : Lower setting) (file : List ℕ) (earlier : List Step) (e latest : ℕ) (handed : setting.device.hands_on piece_kind ≡ true) where
+-- ---- over any steps of a link
+-- what is known of a link: its requests stay, a call of the device's machine changes nothing on it, and of what is good
+-- what was there before is good too; there an answer with SUCCESS to a request for a piece is that piece of the file
+pub record IsLink {S T : Type 0} (setting : BothEnds S) (world_at : List (UpdateStep T) → World) (e : ℕ) (file : List ℕ) (Good : List (UpdateStep T) → Type 0) : Type 0 where
+  pub stays : (step : T) (past : List (UpdateStep T)) (k : ℕ) (r : Asked) → asked_at (world_at past).log k ≡ Some r → asked_at (world_at (OnLink step ∷ past)).log k ≡ Some r
+  pub same : (call : Call) (past : List (UpdateStep T)) → world_at past ≡ world_at (AtDevice call ∷ past)
+  pub before : (step : UpdateStep T) (past : List (UpdateStep T)) → Good (step ∷ past) → Good past
+  pub given : (past : List (UpdateStep T)) → Good past → (number code offset count : ℕ) (bytes : List ℕ) → offset < 2 ^ 32 → count < 2 ^ 32
+      → HasAnswer setting e (world_at past) number code bytes → HasAsked e (world_at past) number offset count → code ≡ SUCCESS → bytes ≡ piece file offset count
+
+module _ {S T : Type 0} (setting : BothEnds S) (world_at : List (UpdateStep T) → World) (e latest : ℕ) (file : List ℕ) (Good : List (UpdateStep T) → Type 0) (is_link : IsLink setting world_at e file Good) where
   abbrev Asks : World → ℕ → ℕ → ℕ → Type 0
-  Asks w number offset count = HasAsked setting earlier e latest w number offset count
+  Asks w number offset count = HasAsked e w number offset count
 
-  abbrev at : List UpdateStep → World
-  at past = world_at setting earlier e latest past
-
-  abbrev Updates : List UpdateStep → Type 0
-  Updates past = IsUpdate setting earlier e latest past
+  abbrev Updates : List (UpdateStep T) → Type 0
+  Updates past = IsUpdate setting world_at e latest past
 
   -- ---- what the request that was opened last asks
-  still_asks : (w : World) (moment : ℕ) (action : Action) (number offset count : ℕ) → Asks w number offset count → Asks (done setting w moment action) number offset count
-  still_asks w moment action number offset count x = record {
-    k = x.k;
-    r = x.r;
-    asked = asked_stays_done setting w moment action x.k x.r x.asked;
-    source = x.source;
-    own = x.own;
-    message = x.message;
-  }
+  still_asks : (step : T) (past : List (UpdateStep T)) (number offset count : ℕ) → Asks (world_at past) number offset count → Asks (world_at (OnLink step ∷ past)) number offset count
+  still_asks step past number offset count x = record { k = x.k; r = x.r; asked = is_link.stays step past x.k x.r x.asked; source = x.source; own = x.own; message = x.message }
 
-  opened_asks : (past : List UpdateStep) (number now : ℕ) → IsUpdateStep setting earlier e latest past (AtDevice (Opened number now)) → (n offset count : ℕ)
-      → (last_asked latest (device_calls past) ≡ Some (question n (Piece offset count)) → Asks (at past) n offset count)
-      → or_last (wish (machine latest (device_calls past)) now) number (last_asked latest (device_calls past)) ≡ Some (question n (Piece offset count)) → Asks (at past) n offset count
+  moved : (call : Call) (past : List (UpdateStep T)) (number offset count : ℕ) → Asks (world_at past) number offset count → Asks (world_at (AtDevice call ∷ past)) number offset count
+  moved call past number offset count x = subst (λ w. Asks w number offset count) (is_link.same call past) x
+
+  opened_asks : (past : List (UpdateStep T)) (number now : ℕ) → IsUpdateStep setting world_at e latest past (AtDevice (Opened number now)) → (n offset count : ℕ)
+      → (last_asked latest (device_calls past) ≡ Some (question n (Piece offset count)) → Asks (world_at past) n offset count)
+      → or_last (wish (machine latest (device_calls past)) now) number (last_asked latest (device_calls past)) ≡ Some (question n (Piece offset count)) → Asks (world_at past) n offset count
   opened_asks past number now opens n offset count before is = go (wish (machine latest (device_calls past)) now) refl is
     where
-      go : (wished : Option DeviceRequest) → wish (machine latest (device_calls past)) now ≡ wished → or_last wished number (last_asked latest (device_calls past)) ≡ Some (question n (Piece offset count)) → Asks (at past) n offset count
+      go : (wished : Option DeviceRequest) → wish (machine latest (device_calls past)) now ≡ wished → or_last wished number (last_asked latest (device_calls past)) ≡ Some (question n (Piece offset count)) → Asks (world_at past) n offset count
       go None w is' = before is'
       go (Some asks) w is' =
           let same : question number asks ≡ question n (Piece offset count) = cc in
-          subst (λ j. Asks (at past) j offset count) (ap (λ (q : Question). q.number) same) (opens offset count (w ∙ ap (λ (q : Question). Some q.request) same))
+          subst (λ j. Asks (world_at past) j offset count) (ap (λ (q : Question). q.number) same) (opens offset count (w ∙ ap (λ (q : Question). Some q.request) same))
 
-  last_asks : (past : List UpdateStep) → Updates past → (n offset count : ℕ) → last_asked latest (device_calls past) ≡ Some (question n (Piece offset count)) → Asks (at past) n offset count
+  last_asks : (past : List (UpdateStep T)) → Updates past → (n offset count : ℕ) → last_asked latest (device_calls past) ≡ Some (question n (Piece offset count)) → Asks (world_at past) n offset count
   last_asks [] u n offset count is = absurd (cc)
-  last_asks (OnLink step ∷ past) u n offset count is = still_asks (at past) step.moment step.action n offset count (last_asks past u.1 n offset count is)
-  last_asks (AtDevice (Opened number now) ∷ past) u n offset count is = opened_asks past number now u.0 n offset count (last_asks past u.1 n offset count) is
+  last_asks (OnLink step ∷ past) u n offset count is = still_asks step past n offset count (last_asks past u.1 n offset count is)
+  last_asks (AtDevice (Opened number now) ∷ past) u n offset count is = moved (Opened number now) past n offset count (opened_asks past number now u.0 n offset count (last_asks past u.1 n offset count) is)
   last_asks (AtDevice (Restart anew) ∷ past) u n offset count is = absurd u.0
-  last_asks (AtDevice (RequestUpdate source now most total) ∷ past) u n offset count is = last_asks past u.1 n offset count is
-  last_asks (AtDevice (PassComponent source now part) ∷ past) u n offset count is = last_asks past u.1 n offset count is
-  last_asks (AtDevice (UpdateComponent source now size room) ∷ past) u n offset count is = last_asks past u.1 n offset count is
-  last_asks (AtDevice (ActivateFirmware source now) ∷ past) u n offset count is = last_asks past u.1 n offset count is
-  last_asks (AtDevice (CancelComponent source now) ∷ past) u n offset count is = last_asks past u.1 n offset count is
-  last_asks (AtDevice (CancelUpdate source) ∷ past) u n offset count is = last_asks past u.1 n offset count is
-  last_asks (AtDevice (Answered number now code bytes) ∷ past) u n offset count is = last_asks past u.1 n offset count is
-  last_asks (AtDevice (GaveUp number) ∷ past) u n offset count is = last_asks past u.1 n offset count is
-  last_asks (AtDevice (Done number well) ∷ past) u n offset count is = last_asks past u.1 n offset count is
-  last_asks (AtDevice (Tick now) ∷ past) u n offset count is = last_asks past u.1 n offset count is
+  last_asks (AtDevice (RequestUpdate source now most total) ∷ past) u n offset count is = moved (RequestUpdate source now most total) past n offset count (last_asks past u.1 n offset count is)
+  last_asks (AtDevice (PassComponent source now part) ∷ past) u n offset count is = moved (PassComponent source now part) past n offset count (last_asks past u.1 n offset count is)
+  last_asks (AtDevice (UpdateComponent source now size room) ∷ past) u n offset count is = moved (UpdateComponent source now size room) past n offset count (last_asks past u.1 n offset count is)
+  last_asks (AtDevice (ActivateFirmware source now) ∷ past) u n offset count is = moved (ActivateFirmware source now) past n offset count (last_asks past u.1 n offset count is)
+  last_asks (AtDevice (CancelComponent source now) ∷ past) u n offset count is = moved (CancelComponent source now) past n offset count (last_asks past u.1 n offset count is)
+  last_asks (AtDevice (CancelUpdate source) ∷ past) u n offset count is = moved (CancelUpdate source) past n offset count (last_asks past u.1 n offset count is)
+  last_asks (AtDevice (Answered number now code bytes) ∷ past) u n offset count is = moved (Answered number now code bytes) past n offset count (last_asks past u.1 n offset count is)
+  last_asks (AtDevice (GaveUp number) ∷ past) u n offset count is = moved (GaveUp number) past n offset count (last_asks past u.1 n offset count is)
+  last_asks (AtDevice (Done number well) ∷ past) u n offset count is = moved (Done number well) past n offset count (last_asks past u.1 n offset count is)
+  last_asks (AtDevice (Tick now) ∷ past) u n offset count is = moved (Tick now) past n offset count (last_asks past u.1 n offset count is)
 
+  -- ---- so each piece that counts is of the file
+  module _ (past : List (UpdateStep T)) (good : Good past) (u : Updates past) (small : length file < 2 ^ 32) (size : size_begun (deeds latest (device_calls past)) ≡ Some (length file)) where
+    piece_served : (number now code : ℕ) (bytes : List ℕ) → HasAnswer setting e (world_at past) number code bytes
+        → IsServed file (machine latest (device_calls past)) (last_asked latest (device_calls past)) (Answered number now code bytes)
+    piece_served number now code bytes has offset count asked last well counts =
+        let calls = device_calls past in
+        let m = machine latest calls in
+        let wished = all_asked latest calls number asked in
+        let both : Some (question number wished.0) ≡ Some (question number (Piece offset count)) = sym wished.2 ∙ last in
+        let same : question number wished.0 ≡ question number (Piece offset count) = cc in
+        let there = piece_wished m.stage m offset count (wished.1 ∙ ap (λ (q : Question). Some q.request) same) in
+        let sized = size_where_fetching latest calls there.0 in
+        let sizes : Some m.size ≡ Some (length file) = sym sized.0 ∙ size in
+        let long : m.size ≡ length file = cc in
+        let low : offset < 2 ^ 32 = omega (arith, there.1, there.2, sized.1, long, small) in
+        let few : count < 2 ^ 32 = omega (arith, there.1, there.2, sized.1, long, small) in
+        let is = is_link.given past good number code offset count bytes low few has (last_asks past u number offset count last) well in
+        is ∙ piece_is file offset count (omega (arith, there.1, there.2, sized.1, long))
+
+    is_served : (call : Call) → IsUpdateStep setting world_at e latest past (AtDevice call) → IsServed file (machine latest (device_calls past)) (last_asked latest (device_calls past)) call
+    is_served (Answered number now code bytes) has = piece_served number now code bytes has
+    is_served (RequestUpdate source now most total) has = tt
+    is_served (PassComponent source now part) has = tt
+    is_served (UpdateComponent source now total room) has = tt
+    is_served (ActivateFirmware source now) has = tt
+    is_served (CancelComponent source now) has = tt
+    is_served (CancelUpdate source) has = tt
+    is_served (Opened number now) has = tt
+    is_served (GaveUp number) has = tt
+    is_served (Done number well) has = tt
+    is_served (Tick now) has = tt
+    is_served (Restart anew) has = tt
+
+  pub served : (past : List (UpdateStep T)) → Good past → Updates past → length file < 2 ^ 32 → size_begun (deeds latest (device_calls past)) ≡ Some (length file) → IsServedSince file latest (device_calls past)
+  served [] good u small size = tt
+  served (OnLink step ∷ past) good u small size = served past (is_link.before (OnLink step) past good) u.1 small size
+  served (AtDevice call ∷ past) good u small size = λ none.
+      let before = size_before (length file) (machine latest (device_calls past)) call (deeds latest (device_calls past)) size none in
+      let good_before = is_link.before (AtDevice call) past good in
+      (is_served past good_before u.1 small before call u.0, served past good_before u.1 small before)
+
+-- ---- over a schedule
+module _ {S : Type 0} (setting : BothEnds S) (lower : Lower setting) (file : List ℕ) (e : ℕ) (handed : setting.device.hands_on piece_kind ≡ true) where
   -- ---- what the requester has as the answer is what the agent's end gave at the request's one arrival
-  piece_given : (steps : List Step) → IsTimelySchedule setting steps → GivesPieces setting file (world setting steps) → (number code offset count : ℕ) (bytes : List ℕ) → offset < 2 ^ 32 → count < 2 ^ 32
-      → HasAnswer setting earlier e latest (world setting steps) number code bytes → Asks (world setting steps) number offset count → code ≡ SUCCESS → bytes ≡ piece file offset count
+  pub piece_given : (steps : List Step) → IsTimelySchedule setting steps → GivesPieces setting file (world setting steps) → (number code offset count : ℕ) (bytes : List ℕ) → offset < 2 ^ 32 → count < 2 ^ 32
+      → HasAnswer setting e (world setting steps) number code bytes → HasAsked e (world setting steps) number offset count → code ≡ SUCCESS → bytes ≡ piece file offset count
   piece_given steps s gives number code offset count bytes low few a q well =
       let w = world setting steps in
       let progress : ((requests_of setting w q.r.source).each q.r.own).course.progress ≡ HasAnswered a.message = (λ i. ((requests_of setting w (q.source i)).each (q.own i)).course.progress) ∙ a.progress in
@@ -169,47 +217,23 @@ module _ {S : Type 0} (setting : BothEnds S) (lower : Lower setting) (file : Lis
   schedule_before : (step : Step) (steps : List Step) → IsTimelySchedule setting (step ∷ steps) → IsTimelySchedule setting steps
   schedule_before step steps s = record { order = s.order.1; timely = s.timely.1; sound = sound_before setting step steps s.sound }
 
-  -- ---- so each piece that counts is of the file
-  module _ (past : List UpdateStep) (s : IsTimelySchedule setting (link_steps past ++ earlier)) (gives : GivesPieces setting file (world setting (link_steps past ++ earlier))) (u : Updates past) (small : length file < 2 ^ 32) (size : size_begun (deeds latest (device_calls past)) ≡ Some (length file)) where
-    piece_served : (number now code : ℕ) (bytes : List ℕ) → HasAnswer setting earlier e latest (at past) number code bytes
-        → IsServed file (machine latest (device_calls past)) (last_asked latest (device_calls past)) (Answered number now code bytes)
-    piece_served number now code bytes has offset count asked last well counts =
-        let calls = device_calls past in
-        let m = machine latest calls in
-        let wished = all_asked latest calls number asked in
-        let both : Some (question number wished.0) ≡ Some (question number (Piece offset count)) = sym wished.2 ∙ last in
-        let same : question number wished.0 ≡ question number (Piece offset count) = cc in
-        let there = piece_wished m.stage m offset count (wished.1 ∙ ap (λ (q : Question). Some q.request) same) in
-        let sized = size_where_fetching latest calls there.0 in
-        let sizes : Some m.size ≡ Some (length file) = sym sized.0 ∙ size in
-        let long : m.size ≡ length file = cc in
-        let low : offset < 2 ^ 32 = omega (arith, there.1, there.2, sized.1, long, small) in
-        let few : count < 2 ^ 32 = omega (arith, there.1, there.2, sized.1, long, small) in
-        let is = piece_given (link_steps past ++ earlier) s gives number code offset count bytes low few has (last_asks past u number offset count last) well in
-        is ∙ piece_is file offset count (omega (arith, there.1, there.2, sized.1, long))
+  module _ (earlier : List Step) where
+    abbrev IsGood : List (UpdateStep Step) → Type 0
+    IsGood past = IsTimelySchedule setting (link_steps past ++ earlier) × GivesPieces setting file (world setting (link_steps past ++ earlier))
 
-    is_served : (call : Call) → IsUpdateStep setting earlier e latest past (AtDevice call) → IsServed file (machine latest (device_calls past)) (last_asked latest (device_calls past)) call
-    is_served (Answered number now code bytes) has = piece_served number now code bytes has
-    is_served (RequestUpdate source now most total) has = tt
-    is_served (PassComponent source now part) has = tt
-    is_served (UpdateComponent source now total room) has = tt
-    is_served (ActivateFirmware source now) has = tt
-    is_served (CancelComponent source now) has = tt
-    is_served (CancelUpdate source) has = tt
-    is_served (Opened number now) has = tt
-    is_served (GaveUp number) has = tt
-    is_served (Done number well) has = tt
-    is_served (Tick now) has = tt
-    is_served (Restart anew) has = tt
+    good_before : (step : UpdateStep Step) (past : List (UpdateStep Step)) → IsGood (step ∷ past) → IsGood past
+    good_before (OnLink step) past good = (schedule_before step (link_steps past ++ earlier) good.0, gives_before step (link_steps past ++ earlier) good.1)
+    good_before (AtDevice call) past good = good
 
-  served : (past : List UpdateStep) → IsTimelySchedule setting (link_steps past ++ earlier) → GivesPieces setting file (world setting (link_steps past ++ earlier)) → Updates past → length file < 2 ^ 32
-      → size_begun (deeds latest (device_calls past)) ≡ Some (length file) → IsServedSince file latest (device_calls past)
-  served [] s gives u small size = tt
-  served (OnLink step ∷ past) s gives u small size = served past (schedule_before step (link_steps past ++ earlier) s) (gives_before step (link_steps past ++ earlier) gives) u.1 small size
-  served (AtDevice call ∷ past) s gives u small size = λ none.
-      let before = size_before (length file) (machine latest (device_calls past)) call (deeds latest (device_calls past)) size none in
-      (is_served past s gives u.1 small before call u.0, served past s gives u.1 small before)
+    is_schedule_link : IsLink setting (over_schedule setting earlier) e file IsGood
+    is_schedule_link = record {
+      stays = λ step past k r is. asked_stays_done setting (over_schedule setting earlier past) step.moment step.action k r is;
+      same = λ call past. refl;
+      before = good_before;
+      given = λ past good. piece_given (link_steps past ++ earlier) good.0 good.1;
+    }
 
 pub images_are_offered : {S : Type 0} (setting : BothEnds S) → Lower setting → ImageOverSchedules setting
 images_are_offered setting lower file earlier e latest past call s handed gives u small size verify =
-    lower.whole file latest (device_calls past) call (served setting lower file earlier e latest handed past s gives u small size) size verify
+    lower.whole file latest (device_calls past) call
+    (served setting (over_schedule setting earlier) e latest file (IsGood setting lower file e handed earlier) (is_schedule_link setting lower file e handed earlier) past (s, gives) u small size) size verify

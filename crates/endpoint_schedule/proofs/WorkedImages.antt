@@ -37,7 +37,8 @@ use Rattle.mctp_schedule.specs.RequesterHalf.{IsTimelySchedule}
 use Rattle.mctp_schedule.specs.Worlds.{BothEnds, World, is_timely, world}
 use Rattle.mctp_schedule.proofs.FirstPerformed.{request_opened}
 use Rattle.mctp_schedule.proofs.PremiseTests.{all_fit, all_rest, are_of_kinds, are_rested, goes_on, never_went_back, replies_fit}
-use Rattle.endpoint_schedule.specs.UpdatesOverSchedules.{AtDevice, GivesPieces, HasAnswer, HasAsked, ImageOverSchedules, IsUpdate, OnLink, UpdateStep, device_calls, link_steps, piece_ask, piece_kind, world_at}
+use Rattle.endpoint_schedule.specs.FirmwareDevices.{AtDevice, HasAnswer, HasAsked, IsUpdate, OnLink, UpdateStep as StepOf, device_calls, link_steps, piece_ask, piece_kind}
+use Rattle.endpoint_schedule.specs.UpdatesOverSchedules.{GivesPieces, ImageOverSchedules, over_schedule}
 
 -- so many bytes, each one more than the last
 abbrev counted : ℕ → ℕ → List ℕ
@@ -74,6 +75,9 @@ setting = record {
 
 abbrev at : ℕ → Action → Step
 at moment action = record { moment = moment; action = action }
+
+abbrev UpdateStep : Type 0
+UpdateStep = StepOf Step
 
 abbrev on : ℕ → Action → UpdateStep
 on moment action = OnLink (at moment action)
@@ -139,38 +143,38 @@ abbrev steps : List Step
 steps = link_steps past ++ earlier
 
 abbrev before : List UpdateStep → World
-before past = world_at setting earlier second 0 past
+before past = over_schedule setting earlier past
 
 -- ---- what was asked, and what was answered
-asks_it : (w : World) (number place few : ℕ) → HasAsked setting earlier second 0 w number place few
-    → (wished : Option DeviceRequest) → wished ≡ Some (Piece place few) → (offset count : ℕ) → wished ≡ Some (Piece offset count) → HasAsked setting earlier second 0 w number offset count
+asks_it : (w : World) (number place few : ℕ) → HasAsked second w number place few
+    → (wished : Option DeviceRequest) → wished ≡ Some (Piece place few) → (offset count : ℕ) → wished ≡ Some (Piece offset count) → HasAsked second w number offset count
 asks_it w number place few asked wished is offset count e =
     let both : Some (Piece place few) ≡ Some (Piece offset count) = sym is ∙ e in
     let there : place ≡ offset = cc in
     let many : few ≡ count = cc in
-    subst (λ c. HasAsked setting earlier second 0 w number offset c) many (subst (λ o. HasAsked setting earlier second 0 w number o few) there asked)
+    subst (λ c. HasAsked second w number offset c) many (subst (λ o. HasAsked second w number o few) there asked)
 
 abbrev asked_as : ℕ → ℕ → ℕ → ℕ → Asked
 asked_as own opening offset count = record { source = second; own = own; opening = opening; message = message_with own (piece_ask offset count) }
 
-first_asked : HasAsked setting earlier second 0 (before first_opened) 0 0 32
+first_asked : HasAsked second (before first_opened) 0 0 32
 unfolding request_of command_of response_of
 first_asked = record { k = 1; r = asked_as 0 2000 0 32; asked = refl; source = refl; own = refl; message = refl }
 
-second_asked : HasAsked setting earlier second 0 (before second_opened) 1 32 32
+second_asked : HasAsked second (before second_opened) 1 32 32
 unfolding request_of command_of response_of
 second_asked = record { k = 2; r = asked_as 1 2210 32 32; asked = refl; source = refl; own = refl; message = refl }
 
-third_asked : HasAsked setting earlier second 0 (before third_opened) 2 32 32
+third_asked : HasAsked second (before third_opened) 2 32 32
 unfolding request_of command_of response_of
 third_asked = record { k = 3; r = asked_as 2 3220 32 32; asked = refl; source = refl; own = refl; message = refl }
 
-fourth_asked : HasAsked setting earlier second 0 (before fourth_opened) 3 64 6
+fourth_asked : HasAsked second (before fourth_opened) 3 64 6
 unfolding request_of command_of response_of
 fourth_asked = record { k = 4; r = asked_as 3 3230 64 6; asked = refl; source = refl; own = refl; message = refl }
 
 abbrev Answers : List UpdateStep → ℕ → List ℕ → Type 0
-Answers past number bytes = HasAnswer setting earlier second 0 (before past) number SUCCESS bytes
+Answers past number bytes = HasAnswer setting second (before past) number SUCCESS bytes
 
 first_has : Answers first_answered 0 (piece file 0 32)
 unfolding request_of command_of response_of
@@ -188,7 +192,7 @@ fourth_has = record { message = response_message 0 3 piece_kind SUCCESS (piece f
 wishes : List UpdateStep → ℕ → Option DeviceRequest
 wishes past now = wish (machine 0 (device_calls past)) now
 
-is_update : IsUpdate setting earlier second 0 past
+is_update : IsUpdate setting (over_schedule setting earlier) second 0 past
 is_update = (
   tt,
   (
@@ -218,10 +222,10 @@ is_update = (
   ),
 )
   where
-    to_second : IsUpdate setting earlier second 0 second_opened
+    to_second : IsUpdate setting (over_schedule setting earlier) second 0 second_opened
     to_second = (tt, (tt, (first_has, (tt, (tt, (tt, (tt, (asks_it (before first_opened) 0 0 32 first_asked (wish (machine 0 (device_calls first_opened)) 2000) refl, (tt, (tt, (tt, (tt, (tt, tt)))))))))))))
 
-    to_third : IsUpdate setting earlier second 0 third_opened
+    to_third : IsUpdate setting (over_schedule setting earlier) second 0 third_opened
     to_third = (tt, (tt, (tt, (tt, (tt, (tt, (asks_it (before second_opened) 1 32 32 second_asked (wish (machine 0 (device_calls second_opened)) 2210) refl, to_second)))))))
 
 -- ---- the schedule

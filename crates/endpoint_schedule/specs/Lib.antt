@@ -4,4 +4,6 @@ pub mod RecentDeliveries
 pub mod EventDevices
 pub mod EventReceiving
 pub mod EventLaws
+pub mod FirmwareDevices
 pub mod UpdatesOverSchedules
+pub mod UpdatesOverLinks

@@ -3,6 +3,7 @@
 ghost use Rattle.endpoint_schedule.specs.OverTime.{BothEndsOverTime, LinksAreSchedules};
 ghost use Rattle.endpoint_schedule.specs.EventLaws.{EventsOverSchedules};
 ghost use Rattle.endpoint_schedule.specs.RecentDeliveries.{ComesWhileRecent};
+ghost use Rattle.endpoint_schedule.specs.UpdatesOverLinks.{ImageOverLinks};
 ghost use Rattle.endpoint_schedule.specs.UpdatesOverSchedules.{ImageOverSchedules};
 ghost use Rattle.mctp_schedule.specs.Worlds.{BothEnds};
 
@@ -79,5 +80,19 @@ pub fn images_are_offered<P: Platform>()
 {
     pldm_wire::laws::messages_are_told_apart();
     mctp_schedule::laws::requesters_take_the_one_reply::<P>();
+    pldm_update::laws::verified_is_whole();
+}
+
+/// The same over a timely run of a link whose agent's end is an `Endpoint`, which gives its answers when it likes, and in
+/// any order: what it gives with SUCCESS for a request for a piece that was handed out to it is the piece of its file.
+pub fn images_are_offered_over_time()
+    ensures { ImageOverLinks }
+{
+    mctp_packet::laws::split_packets_read_back();
+    pldm_wire::laws::messages_are_told_apart();
+    pldm_requester::laws::one_open_on_each_tag();
+    pldm_requester::laws::instance_ids_are_apart();
+    both_ends_over_time();
+    links_are_schedules();
     pldm_update::laws::verified_is_whole();
 }
