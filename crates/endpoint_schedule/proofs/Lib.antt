@@ -3,7 +3,7 @@ pub mod LinkState
 pub mod LinkReceives
 pub mod LinkPasses
 pub mod LinkHolds
-mod WorkedLinks
+pub mod WorkedLinks
 pub mod RecentDeliveries
 pub mod PostedEvents
 pub mod FollowedRuns
@@ -13,3 +13,4 @@ pub mod WorkedEvents
 pub mod OfferedImages
 pub mod OfferedOverLinks
 mod WorkedImages
+mod WorkedOffers

@@ -1,5 +1,5 @@
--- A firmware device at a link: it asks its agent for the pieces of an image by a requester (DSP0267, "RequestFirmwareData
--- command"). Runs have the newest first.
+-- A firmware device at a link: it asks its agent for the pieces of an image by a requester (DSP0267,
+-- "RequestFirmwareData command"). Runs have the newest first.
 use Rattle.std.specs.Prelude.{◌≡◌, ℕ, List, [], ◌∷◌, Some, Ok}
 use Rattle.pldm_requester.specs.Asks.{Ask, ask_for}
 use Rattle.pldm_requester.specs.Courses.{Answered as HasAnswered}
@@ -58,10 +58,11 @@ pub record HasAnswer
   pub code_is : response.code ≡ code
   pub rest_is : response.rest ≡ bytes
 
--- over steps of a link that leave these worlds the device's requester is e, and its own steps have numbers after `latest`
+-- over steps of a link that leave these worlds the device's requester is e, and its own steps have numbers after
+-- `latest`
 module _ {S T : Type 0} (setting : BothEnds S) (world_at : List (UpdateStep T) → World) (e latest : ℕ) where
-  -- a request that the device opens for the piece that it wishes for is its requester's; as the answer to a request it is
-  -- told what its requester has as the answer to that very request; a device that begins anew is another run's
+  -- a request that the device opens for the piece that it wishes for is its requester's; as the answer to a request it
+  -- is told what its requester has as the answer to that very request; a device that begins anew is another run's
   abbrev pub IsUpdateStep : List (UpdateStep T) → UpdateStep T → Type 0
   IsUpdateStep past (AtDevice (Opened number now)) =
       (offset count : ℕ) → wish (machine latest (device_calls past)) now ≡ Some (Piece offset count)

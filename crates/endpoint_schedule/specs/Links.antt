@@ -1,6 +1,6 @@
 -- Both ends of a link whose device answers in its own time: any requesters of this work, and one endpoint. A requester
--- may begin anew at its endpoint. What a call of the endpoint returns and leaves is what its contract says. What no step
--- delivers is lost, and what is delivered again is a repeat. Steps have the newest first.
+-- may begin anew at its endpoint. What a call of the endpoint returns and leaves is what its contract says. What no
+-- step delivers is lost, and what is delivered again is a repeat. Steps have the newest first.
 use Rattle.std.specs.Prelude.{◌≡◌, ◌≢◌, ℕ, ◌+◌, ◌%◌, ◌<◌, ◌≤◌, ◌==◌, Bool, not, List, [], ◌∷◌, ◌++◌, length, Option, Some, None, option_and_then, slice_get, if◌then◌else◌}
 use Rattle.mctp_packet.specs.Ids.{IsEid}
 use Rattle.mctp_packet.specs.declared.TheConstants.{BASELINE_UNIT, TAGS}
@@ -60,8 +60,8 @@ pub record IsShort (ask : Ask) : Type 0 where
 
 -- each at its moment
 pub data LinkStep : Type 0 where
-  -- a requester is called: to open a request, and at a tick. One that begins anew at its endpoint is another one, and has
-  -- 256 more as its number
+  -- a requester is called: to open a request, and at a tick. One that begins anew at its endpoint is another one, and
+  -- has 256 more as its number
   Opens : (moment requester : ℕ) → (ask : Ask) → LinkStep
   Ticks : (moment requester : ℕ) → LinkStep
   -- the packet of request k comes to the endpoint, which is `new` then; this is what became of it

@@ -59,7 +59,8 @@ module _ (settings : LinkSettings) (answers : ℕ → Given) where
   pub record IsSoundLink (l : Link) : Type 0 where
     pub device : IsEid settings.eid
     pub sources :
-        (k : ℕ) (r : Asked) → asked_at l.world.log k ≡ Some r → IsEid (endpoint_of r.source) × (endpoint_of r.source ≢ settings.eid)
+        (k : ℕ) (r : Asked) → asked_at l.world.log k ≡ Some r
+        → IsEid (endpoint_of r.source) × (endpoint_of r.source ≢ settings.eid)
     pub fit :
         (n k : ℕ) (r : Asked) → slice_get l.handed_out n ≡ Some k → asked_at l.world.log k ≡ Some r
         → FitsPackets (reply_of settings.handed_on (answers n) r.message)

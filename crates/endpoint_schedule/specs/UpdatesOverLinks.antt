@@ -18,11 +18,12 @@ use Rattle.endpoint_schedule.specs.Links.{IsFirst, Link, LinkSettings, LinkStep,
 use Rattle.endpoint_schedule.specs.OverTime.{IsTimelyLink}
 
 -- before the device began other steps had come
-abbrev pub over_link : (settings : LinkSettings) → (ℕ → Given) → EndpointView → List LinkStep → List (UpdateStep LinkStep) → World
+abbrev pub over_link :
+    LinkSettings → (ℕ → Given) → EndpointView → (earlier : List LinkStep) → List (UpdateStep LinkStep) → World
 over_link settings answers first earlier past = (link settings answers first (link_steps past ++ earlier)).world
 
--- what the agent's end gives for a request for a piece that was handed out to it, where with SUCCESS, is that piece of its
--- file
+-- what the agent's end gives for a request for a piece that was handed out to it, where with SUCCESS, is that piece of
+-- its file
 abbrev pub GivesPieces : (ℕ → Given) → List ℕ → Link → Type 0
 GivesPieces answers file l =
     (n k offset count : ℕ) (r : Asked)
@@ -31,8 +32,8 @@ GivesPieces answers file l =
     → r.message ≡ message_with r.own (piece_ask offset count)
     → (response_in (answers n)).code ≡ SUCCESS → (response_in (answers n)).rest ≡ piece file offset count
 
--- over a timely run of such a link what the flash is told to verify is the file, byte for byte, where the transfer began
--- with its size, which four bytes can say
+-- over a timely run of such a link what the flash is told to verify is the file, byte for byte, where the transfer
+-- began with its size, which four bytes can say
 abbrev pub ImageOverLinks : Type 0
 ImageOverLinks =
     (settings : LinkSettings) (answers : ℕ → Given) (keeping : ResponderSettings) (limits : Bounds) (most : ℕ)

@@ -22,7 +22,8 @@ use Rattle.endpoint_schedule.specs.FirmwareDevices.{IsUpdate, UpdateStep, device
 abbrev pub over_schedule : {S : Type 0} → BothEnds S → List Step → List (UpdateStep Step) → World
 over_schedule setting earlier past = world setting (link_steps past ++ earlier)
 
--- what the agent's end responds to a request for a piece that arrives there, where with SUCCESS, is that piece of its file
+-- what the agent's end responds to a request for a piece that arrives there, where with SUCCESS, is that piece of its
+-- file
 abbrev pub GivesPieces : {S : Type 0} → BothEnds S → List ℕ → World → Type 0
 GivesPieces {S} setting file w =
     (k offset count : ℕ) (r : Asked) (place : List Happening) (given : Responded)

@@ -10,10 +10,10 @@ ghost use Rattle.mctp_schedule.specs.Worlds.{BothEnds};
 use pldm_platform::Platform;
 
 /// In every timely run of requesters and an endpoint whose device answers when it likes and whatever it likes, or
-/// never: what is handed out, as a command or, so made, as bytes, is, in order and once each, the requests that arrived,
-/// each at its first arrival, but for those that are refused by their code; all that goes out to a request is the one
-/// message made of what the device gave for that very request, or of the code that refuses it; and each answer that a
-/// requester took is that message, of its own request. What a bound refuses counts as lost.
+/// never: what is handed out, as a command or, so made, as bytes, is, in order and once each, the requests that
+/// arrived, each at its first arrival, but for those that are refused by their code; all that goes out to a request is
+/// the one message made of what the device gave for that very request, or of the code that refuses it; and each answer
+/// that a requester took is that message, of its own request. What a bound refuses counts as lost.
 pub fn both_ends_over_time()
     ensures { BothEndsOverTime }
 {
@@ -26,9 +26,9 @@ pub fn both_ends_over_time()
     pldm_requester::laws::instance_ids_are_apart();
 }
 
-/// In every such run the requesters' calls and what happened on the link are those of a timely schedule of them and of a
-/// device that answers at once with what this one gives for each number. So laws of schedules, as [`images_are_offered`]
-/// and those of `mctp_schedule`, are laws of such runs.
+/// In every such run the requesters' calls and what happened on the link are those of a timely schedule of them and of
+/// a device that answers at once with what this one gives for each number. So laws of schedules, as
+/// [`images_are_offered`] and those of `mctp_schedule`, are laws of such runs.
 pub fn links_are_schedules()
     ensures { LinksAreSchedules }
 {
@@ -68,13 +68,13 @@ pub fn events_over_schedules<P: Platform>()
 }
 
 /// Over a timely schedule what a firmware device has its flash verify is its agent's file, byte for byte, where the
-/// transfer began with the file's size (DSP0267): whatever is lost, repeated or reordered, where the agent's end restarts,
-/// and where the device began anew before, with a requester that rested for twice the keeping time.
+/// transfer began with the file's size (DSP0267): whatever is lost, repeated or reordered, where the agent's end
+/// restarts, and where the device began anew before, with a requester that rested for twice the keeping time.
 ///
-/// The device's machine asks for pieces by a requester of the schedule, and is told as the answer to a request what that
-/// has as the answer to this very request. The agent's end hands such requests on; where it responds with SUCCESS to one
-/// that arrives, it gives the piece of its file. That nothing is activated that was not verified and applied, well, is
-/// `pldm_update::laws::flash_is_in_order`.
+/// The device's machine asks for pieces by a requester of the schedule, and is told as the answer to a request what
+/// that has as the answer to this very request. The agent's end hands such requests on; where it responds with SUCCESS
+/// to one that arrives, it gives the piece of its file. That nothing is activated that was not verified and applied,
+/// well, is `pldm_update::laws::flash_is_in_order`.
 pub fn images_are_offered<P: Platform>()
     ensures { (setting : BothEnds P.State) → ImageOverSchedules setting }
 {
@@ -83,8 +83,9 @@ pub fn images_are_offered<P: Platform>()
     pldm_update::laws::verified_is_whole();
 }
 
-/// The same over a timely run of a link whose agent's end is an `Endpoint`, which gives its answers when it likes, and in
-/// any order: what it gives with SUCCESS for a request for a piece that was handed out to it is the piece of its file.
+/// The same over a timely run of a link whose agent's end is an `Endpoint`, which gives its answers when it likes, and
+/// in any order: what it gives with SUCCESS for a request for a piece that was handed out to it is the piece of its
+/// file.
 pub fn images_are_offered_over_time()
     ensures { ImageOverLinks }
 {
