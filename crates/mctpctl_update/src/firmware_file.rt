@@ -1,6 +1,6 @@
 //! The file of a device's firmware, with what is coming and what is applied in files beside it.
 
-use pldm_update::FlashAction;
+use pldm_update::Component;
 use std::fs::{self, File};
 use std::io::{self, ErrorKind, Write};
 use update_line::Flash;
@@ -44,8 +44,8 @@ impl<'r> FirmwareFile<'r> {
         })
     }
 
-    /// Makes room for an image of so many bytes.
-    fn begin(&mut self, size: u32) -> io::Result<()> {
+    /// Makes an empty file for an image of so many bytes.
+    fn create(&mut self, size: u32) -> io::Result<()> {
         self.file = None;
         self.file = Some(fs::create(self.rt, self.coming.as_str())?);
         self.stored = 0;
@@ -53,8 +53,8 @@ impl<'r> FirmwareFile<'r> {
         Ok(())
     }
 
-    /// Stores the bytes of a piece: they follow those that are stored.
-    fn store(&mut self, offset: u32, piece: &[u8]) -> io::Result<()> {
+    /// Writes the bytes of a piece: they follow those that are stored.
+    fn append(&mut self, offset: u32, piece: &[u8]) -> io::Result<()> {
         let Some(file) = &mut self.file else {
             return Err(ErrorKind::InvalidInput.into());
         };
@@ -66,8 +66,8 @@ impl<'r> FirmwareFile<'r> {
         Ok(())
     }
 
-    /// Verifies that the image is whole, and that the file holds it.
-    fn verify(&mut self) -> io::Result<()> {
+    /// Sees that the image is whole, and that the file holds it.
+    fn sync(&mut self) -> io::Result<()> {
         let Some(file) = &self.file else {
             return Err(ErrorKind::InvalidInput.into());
         };
@@ -78,21 +78,15 @@ impl<'r> FirmwareFile<'r> {
         Ok(())
     }
 
-    /// The image is to be active at the next activation.
-    fn apply(&mut self) -> io::Result<()> {
-        self.file = None;
-        fs::rename(self.rt, self.coming.as_str(), self.applied.as_str())
-    }
-
-    /// Forgets the image that was begun last.
-    fn abandon(&mut self) -> io::Result<()> {
+    /// Removes the file of the image that was begun last.
+    fn remove_coming(&mut self) -> io::Result<()> {
         self.file = None;
         removed(fs::remove_file(self.rt, self.coming.as_str()))
     }
 
-    /// Forgets all that is not active.
-    fn abandon_all(&mut self) -> io::Result<()> {
-        self.abandon()?;
+    /// Removes both files beside the firmware.
+    fn remove_both(&mut self) -> io::Result<()> {
+        self.remove_coming()?;
         removed(fs::remove_file(self.rt, self.applied.as_str()))
     }
 }
@@ -108,18 +102,34 @@ fn removed(done: io::Result<()>) -> io::Result<()> {
 impl Flash for FirmwareFile<'_> {
     ghost use Rattle.std.specs.Prelude.{⊤};
 
-    ghost acted = { λ _ _ _ _ _. ⊤ };
+    ghost acted = { λ _ _ _ _. ⊤ };
 
-    fn act(&mut self, action: FlashAction, piece: &[u8]) -> bool {
-        let done = match action {
-            FlashAction::Begin { size } => self.begin(size),
-            FlashAction::Store { offset } => self.store(offset, piece),
-            FlashAction::Verify => self.verify(),
-            FlashAction::Apply => self.apply(),
-            FlashAction::Activate => fs::rename(self.rt, self.applied.as_str(), self.name),
-            FlashAction::Abandon => self.abandon(),
-            FlashAction::AbandonUpdate => self.abandon_all(),
-        };
-        done.is_ok()
+    fn begin(&mut self, _component: Component, size: u32) -> bool {
+        self.create(size).is_ok()
+    }
+
+    fn store(&mut self, offset: u32, piece: &[u8]) -> bool {
+        self.append(offset, piece).is_ok()
+    }
+
+    fn verify(&mut self) -> bool {
+        self.sync().is_ok()
+    }
+
+    fn apply(&mut self) -> bool {
+        self.file = None;
+        fs::rename(self.rt, self.coming.as_str(), self.applied.as_str()).is_ok()
+    }
+
+    fn activate(&mut self) -> bool {
+        fs::rename(self.rt, self.applied.as_str(), self.name).is_ok()
+    }
+
+    fn abandon(&mut self) -> bool {
+        self.remove_coming().is_ok()
+    }
+
+    fn abandon_update(&mut self) -> bool {
+        self.remove_both().is_ok()
     }
 }

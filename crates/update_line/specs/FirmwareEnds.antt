@@ -4,19 +4,21 @@ use Rattle.pldm_update.specs.DeviceAnswers.{Outcome, answered, done}
 use Rattle.pldm_update.specs.Machines.{Machine}
 use Rattle.pldm_update.specs.Receiving.{received}
 use Rattle.pldm_update.specs.declared.command.UpdateCommand.{UpdateCommand}
+use Rattle.pldm_update.specs.declared.component.Component.{Component}
 use Rattle.pldm_update.specs.declared.flash.FlashAction.{FlashAction}
 use Rattle.pldm_wire.specs.Responses.{Response}
 use Rattle.pldm_terminus.specs.Termini.{TerminusView}
+use Rattle.update_line.specs.FlashCalls.{FlashCall, call_of}
 use Rattle.update_line.specs.OwnAnswers.{response_in}
 
--- `acted` says what a step of the flash with these bytes, which went well or not, makes of it
-module _ {F : Type 0} (acted : F → FlashAction → List ℕ → Bool → F → Type 0) where
+-- `acted` says what a call of the flash, which went well or not, makes of it; the device has this component
+module _ {F : Type 0} (acted : F → FlashCall → Bool → F → Type 0) (component : Component) where
   -- what comes of a call of the machine is done by the flash, with this piece, and reported as it went; where nothing
   -- comes of it, the flash is as before
   abbrev pub IsDone : (piece : List ℕ) (before after : F) (left : Machine) → Machine → Option FlashAction → Type 0
   IsDone piece before after left m None = (left ≡ m) × (after ≡ before)
   IsDone piece before after left m (Some action) =
-      (well : Bool) × acted before action piece well after × (left ≡ done m m.latest well)
+      (well : Bool) × acted before (call_of component action piece) well after × (left ≡ done m m.latest well)
 
   abbrev pub Does : (piece : List ℕ) (before after : F) (left : Machine) → Outcome → Type 0
   Does piece before after left outcome = IsDone piece before after left outcome.machine outcome.action

@@ -1,5 +1,5 @@
 -- The answer that an end has to a request of its own.
-use Rattle.std.specs.Prelude.{ℕ, List, Option, Some, None, Result, Ok, Err, option_and_then}
+use Rattle.std.specs.Prelude.{ℕ, Option, Some, None, Result, Ok, Err, option_and_then}
 use Rattle.pldm_line.specs.Ends.{answer_of}
 use Rattle.pldm_requester.specs.Slots.{RequesterView, held_of}
 use Rattle.pldm_wire.specs.Responses.{Response, response_of}

@@ -1,5 +1,5 @@
 -- What a device that takes updates says of PLDM type 5 (DSP0240), beside what its platform says.
-use Rattle.std.specs.Prelude.{◌≡◌, ℕ, ◌==◌, ◌&&◌, List, [], ◌∷◌, ◌++◌, replicate, if◌then◌else◌}
+use Rattle.std.specs.Prelude.{ℕ, ◌==◌, ◌&&◌, List, ◌∷◌, replicate, if◌then◌else◌}
 use Rattle.pldm_wire.specs.declared.command.Command.{Command}
 use Rattle.pldm_wire.specs.declared.command.Command.TheVariants as commands
 use Rattle.pldm_wire.specs.declared.answer.Answer.{Answer}

@@ -5,10 +5,11 @@ ghost use Rattle.pldm_update.specs.declared.command.UpdateCommand.{UpdateCommand
 ghost use Rattle.pldm_update.specs.DeviceAnswers.{answered, done};
 ghost use Rattle.pldm_update.specs.Machines.{first_machine};
 ghost use Rattle.update_line.specs.FirmwareEnds.{Does, Takes, TakesCommand};
+ghost use Rattle.update_line.specs.FlashCalls.{call_of};
 ghost use Rattle.update_line.specs.OwnAnswers.{response_in};
 
 use crate::exchanges::{answered, moment_at, open, refused, reply_of, respond, response_to};
-use crate::flash::Flash;
+use crate::flash::{Flash, act};
 use crate::offer::again;
 use crate::parameters::parameters_of;
 use crate::type_answers::with_updates;
@@ -87,12 +88,19 @@ fn command_of(request: DeviceRequest) -> UpdateCommand {
     }
 }
 
-/// The flash does a step, with the bytes of the piece that has just come, and the machine is told how it went.
-fn work<F: Flash>(machine: &mut FirmwareDevice, flash: &mut F, step: FlashStep, piece: &[u8])
-    ensures { (well : Bool) × F.acted flash.old step.action piece.now well flash.new
+/// The flash does a step, for this component and with the bytes of the piece that has just come, and the machine is told
+/// how it went.
+fn work<F: Flash>(
+    machine: &mut FirmwareDevice,
+    flash: &mut F,
+    component: Component,
+    step: FlashStep,
+    piece: &[u8],
+)
+    ensures { (well : Bool) × F.acted flash.old (call_of component step.action piece.now) well flash.new
         × (machine.new ≡ done machine.old step.number well) }
 {
-    let well = flash.act(step.action, piece);
+    let well = act(flash, component, step.action, piece);
     machine.done(step.number, well);
 }
 
@@ -148,8 +156,8 @@ impl<P: Platform, F: Flash> FirmwareEnd<P, F> {
     /// Responds to the request under this handle, which is of firmware update.
     fn respond(&mut self, now: Moment, handle: &CommandHandle, reply: &mut Body) -> Reply
         ensures { ((self.new.machine ≡ self.old.machine) × (self.new.flash ≡ self.old.flash))
-            ⊎ ((command : Asked) × TakesCommand F.acted handle.now.source now self.old.flash self.new.flash
-            self.old.machine self.new.machine command) }
+            ⊎ ((command : Asked) × TakesCommand F.acted self.old.settings.component handle.now.source now
+            self.old.flash self.new.flash self.old.machine self.new.machine command) }
     {
         let Some(request) = self.end.answering().endpoint().request(handle) else {
             return Reply::Nothing;
@@ -163,8 +171,8 @@ impl<P: Platform, F: Flash> FirmwareEnd<P, F> {
 
     /// Takes a command of firmware update; the answer.
     fn take_command(&mut self, now: Moment, source: Eid, command: &UpdateCommand) -> UpdateAnswer
-        ensures { TakesCommand F.acted source now self.old.flash self.new.flash self.old.machine self.new.machine
-            command.now }
+        ensures { TakesCommand F.acted self.old.settings.component source now self.old.flash self.new.flash
+            self.old.machine self.new.machine command.now }
     {
         if let Some(answer) = self.identity.answer(command) {
             return answer;
@@ -175,12 +183,13 @@ impl<P: Platform, F: Flash> FirmwareEnd<P, F> {
                 None => UpdateAnswer::Refused(Code::ERROR),
             };
         }
+        let component = self.settings.component;
         let room = self.room_for(command);
         let Some(received) = self.machine.receive(source, now, command, room) else {
             return UpdateAnswer::Refused(Code::ERROR_UNSUPPORTED_PLDM_CMD);
         };
         if let Some(step) = received.step {
-            work(&mut self.machine, &mut self.flash, step, &[]);
+            work(&mut self.machine, &mut self.flash, component, step, &[]);
             self.note(command);
         }
         received.answer
@@ -213,18 +222,19 @@ impl<P: Platform, F: Flash> FirmwareEnd<P, F> {
     /// Takes the agent's answer to a request.
     fn take_answer(&mut self, now: Moment, number: u64)
         ensures told { IfSome (response_in self.old.end.asking.requester number) (λ r.
-            Does F.acted r.rest self.old.flash self.new.flash self.new.machine
+            Does F.acted self.old.settings.component r.rest self.old.flash self.new.flash self.new.machine
             (answered self.old.machine number now r.code (length r.rest))) }
         ensures none { IfNone (response_in self.old.end.asking.requester number)
             ((self.new.machine ≡ self.old.machine) × (self.new.flash ≡ self.old.flash)) }
         ensures end { self.new.end ≡ self.old.end }
     {
+        let component = self.settings.component;
         let Some(response) = response_to(&self.end, number) else {
             return;
         };
         let data = response.data();
         if let Some(step) = self.machine.answered(number, now, response.code(), data) {
-            work(&mut self.machine, &mut self.flash, step, data);
+            work(&mut self.machine, &mut self.flash, component, step, data);
             if step.action == FlashAction::Apply {
                 self.next = again(&self.coming);
             }
@@ -236,8 +246,8 @@ impl<P: Platform, F: Flash> UpdateEnd for FirmwareEnd<P, F> {
     /// Takes a packet. What the machine is told of an answer is what its requester has as the answer to that very
     /// request, and the bytes that are stored are those of that answer.
     fn receive(&mut self, reading: u64, packet: &[u8], reply: &mut Body) -> Result<Reply, Memory>
-        ensures { IfOk result (λ _. (now : ℕ) × Takes F.acted now self.new.end self.old.flash self.new.flash
-            self.old.machine self.new.machine) }
+        ensures { IfOk result (λ _. (now : ℕ) × Takes F.acted self.old.settings.component now self.new.end
+            self.old.flash self.new.flash self.old.machine self.new.machine) }
     {
         let now = moment_at(&self.end, reading);
         let step = match self.end.receive_message(now, packet, reply) {
@@ -265,13 +275,14 @@ impl<P: Platform, F: Flash> UpdateEnd for FirmwareEnd<P, F> {
     fn pass(&mut self, reading: u64) -> Result<Sending, Memory> {
         let now = moment_at(&self.end, reading);
         let due = self.end.tick(now);
+        let component = self.settings.component;
         for number in &due.given_up {
             if let Some(step) = self.machine.gave_up(*number) {
-                work(&mut self.machine, &mut self.flash, step, &[]);
+                work(&mut self.machine, &mut self.flash, component, step, &[]);
             }
         }
         if let Some(step) = self.machine.tick(now) {
-            work(&mut self.machine, &mut self.flash, step, &[]);
+            work(&mut self.machine, &mut self.flash, component, step, &[]);
         }
         let mut opened = None;
         let now = moment_at(&self.end, now.get()); // the same, for the proof

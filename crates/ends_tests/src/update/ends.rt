@@ -8,7 +8,7 @@ use pldm_endpoint::Endpoint;
 use pldm_requester::Timing;
 use pldm_responder::{Bounds, ResponderSettings};
 use pldm_terminus::Terminus;
-use pldm_update::{Component, DeviceIdentifiers, FIRMWARE_UPDATE, FlashAction, VersionString};
+use pldm_update::{Component, DeviceIdentifiers, FIRMWARE_UPDATE, VersionString};
 use pldm_wire::PassThrough;
 use std::alloc::Global;
 use std::process::Abort;
@@ -34,23 +34,38 @@ pub(super) struct TwoSlots {
 impl Flash for TwoSlots {
     ghost use Rattle.std.specs.Prelude.{⊤};
 
-    ghost acted = { λ _ _ _ _ _. ⊤ };
+    ghost acted = { λ _ _ _ _. ⊤ };
 
-    fn act(&mut self, action: FlashAction, piece: &[u8]) -> bool {
-        match action {
-            FlashAction::Begin { .. } | FlashAction::Abandon | FlashAction::AbandonUpdate => {
-                self.coming.clear();
-                true
-            }
-            FlashAction::Store { offset } => {
-                self.coming.len() == offset as usize && self.coming.extend_from_slice(piece).is_ok()
-            }
-            FlashAction::Verify | FlashAction::Apply => true,
-            FlashAction::Activate => {
-                self.active.clear();
-                self.active.extend_from_slice(&self.coming).is_ok()
-            }
-        }
+    fn begin(&mut self, component: Component, _size: u32) -> bool {
+        self.coming.clear();
+        component == BOARD
+    }
+
+    fn store(&mut self, offset: u32, piece: &[u8]) -> bool {
+        self.coming.len() == offset as usize && self.coming.extend_from_slice(piece).is_ok()
+    }
+
+    fn verify(&mut self) -> bool {
+        true
+    }
+
+    fn apply(&mut self) -> bool {
+        true
+    }
+
+    fn activate(&mut self) -> bool {
+        self.active.clear();
+        self.active.extend_from_slice(&self.coming).is_ok()
+    }
+
+    fn abandon(&mut self) -> bool {
+        self.coming.clear();
+        true
+    }
+
+    fn abandon_update(&mut self) -> bool {
+        self.coming.clear();
+        true
     }
 }
 

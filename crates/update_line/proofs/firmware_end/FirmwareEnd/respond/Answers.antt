@@ -1,5 +1,5 @@
 -- The command that was read is taken; where none was read, nothing comes of it.
-use Rattle.std.proofs.Common.{◌≡◌, ap, inl, inr}
+use Rattle.std.proofs.Common.{ap, inl, inr}
 use Rattle.update_line.proofs.firmware_end.FirmwareEnd.respond.Goals as goal
 use Rattle.update_line.proofs.firmware_end.FirmwareEnd.respond.Goals.{in-Ok, in-Err}
 
