@@ -189,6 +189,19 @@ def killed(program):
         yield "after a new start: the same bytes", device.active() == data, True
 
 
+def killed_agent(program):
+    """After an agent was killed in the middle, the next one cancels its update, and brings its own."""
+    data = image_of(900, "after a killed agent")
+    with UpdatedDevice(program, OLD) as device:
+        device.serve().begin_update(device.write("killed.bin", image_of(30_000, "killed agent")))
+        yield "a third has come of an agent", device.wait_for(10_000), True
+        device.kill_agent()
+        ran = device.update(device.write("next.bin", data))
+        want = brought(identity("unknown") + "an earlier update cancelled\n" + steps(900))
+        yield "after a killed agent", ran, want
+        yield "after a killed agent: the same bytes", (device.active() == data, device.coming()), (True, None)
+
+
 def failing(program):
     """Where the device's files fail, it says so, and its firmware is as it was."""
     for ending, last in (("part", "component 10:1:0 800 bytes\n"), ("new", "component 10:1:0 verified\n")):
@@ -363,8 +376,8 @@ def by_hand(program):
         yield "commands by hand change no firmware", (device.active(), device.coming()), (OLD, None)
 
 
-CASES = (lossy, killed, whole, packaged, not_for_it, failing, another_agent, nobody, dry_run, hung_up, by_hand, files)
-CASES += (options, *rows_update_hand.CASES)
+CASES = (lossy, killed, killed_agent, whole, packaged, not_for_it, failing, another_agent, nobody, dry_run, hung_up)
+CASES += (by_hand, files, options, *rows_update_hand.CASES)
 AT_ONCE = 10
 
 

@@ -319,6 +319,33 @@ def ended_by(program, table):
         yield f"a device says no: {name}, what is sent", (0x1D in commands, 0x1A in commands), (is_begun, activates)
 
 
+# What a device says to RequestUpdate and CancelUpdate that has an update under way, whether it is brought one then, and
+# what is asked: ALREADY_IN_UPDATE_MODE, NOT_IN_UPDATE_MODE and COMMAND_NOT_EXPECTED.
+OCCUPIED = b"\x81"
+UNDER_WAY = (
+    ("it is cancelled", {0x10: [OCCUPIED]}, True, [0x10, 0x1D, 0x10]),
+    ("it has ended", {0x10: [OCCUPIED], 0x1D: [b"\x80"]}, True, [0x10, 0x1D, 0x10]),
+    ("another agent's", {0x10: [OCCUPIED], 0x1D: [b"\x88"]}, False, [0x10, 0x1D]),
+    ("it begins again", {0x10: [OCCUPIED] * 2}, False, [0x10, 0x1D, 0x10]),
+)
+
+
+def occupied(program):
+    """A device that has an update under way: it is asked once to cancel it."""
+    refused = b"mctpctl: RequestUpdate: refused with the completion code 0x81\n"
+    cancelled = "an earlier update cancelled\n"
+    for name, others, is_brought, asked in UNDER_WAY:
+        ran, _, requests = update_by(program, WELL, others=others)
+        printed = FRONT + cancelled * (asked[-1] == 0x10)
+        want = (1, printed.encode(), refused)
+        if is_brought:
+            rest = (OFFERED + "".join(STEPS)).removeprefix(FRONT)
+            want = (0, f"{printed}{rest}activated\n".encode(), b"")
+        yield f"an update under way: {name}", ran, want
+        commands = [command for command in commands_of(requests) if command in (0x10, 0x1D)]
+        yield f"an update under way: {name}, what is asked", commands, asked
+
+
 def said_otherwise(program):
     """What a device may say else: another activation method, not yet, and several components."""
     ran, *_ = update_by(program, ended_with(b"\0", b"\0", b"\1\2\0"))
@@ -335,4 +362,4 @@ def said_otherwise(program):
 
 
 CASES = (said_no, reported, said_otherwise, brought_by_hand, silent_agent, wrong_pieces, cancelled, late_pieces)
-CASES += (pieces_by_hand, two_images)
+CASES += (pieces_by_hand, two_images, occupied)

@@ -1,4 +1,4 @@
-//! What a device is asked before an update: what it is, and which firmware it has.
+//! What a device is asked before an update: what it is, which firmware it has, and to end another update.
 
 ghost use Rattle.std.specs.Prelude.{OnOk};
 ghost use Rattle.mctpctl_input.specs.Ports.{BothWork};
@@ -8,7 +8,8 @@ use mctpctl_input::Port;
 use pldm_line::{Ticks, Watch};
 use pldm_terminus::Terminus;
 use pldm_update::{
-    DeviceIdentifiers, FirmwareParameters, UpdateAnswer, UpdateCommand, UpdateFault,
+    DeviceIdentifiers, FirmwareParameters, NOT_IN_UPDATE_MODE, UpdateAnswer, UpdateCommand,
+    UpdateFault,
 };
 use pldm_wire::SUCCESS;
 use std::io::{Read, Write};
@@ -19,6 +20,9 @@ const IDENTIFIERS: &str = "QueryDeviceIdentifiers";
 
 /// The name of the question which firmware it has.
 const PARAMETERS: &str = "GetFirmwareParameters";
+
+/// The name of the command that ends an update.
+const CANCEL: &str = "CancelUpdate";
 
 /// Asks what identifies the device.
 pub(crate) fn ask_identifiers<C: Ticks, L: Watch, R: Read, W: Write, K: Keeps>(
@@ -56,6 +60,23 @@ pub(crate) fn ask_parameters<C: Ticks, L: Watch, R: Read, W: Write, K: Keeps>(
         UpdateAnswer::GetFirmwareParameters { parameters } => Ok((end, parameters)),
         other => Err(refused(PARAMETERS, &other)),
     }
+}
+
+/// Ends the update that the device has under way, and returns whether it has none then.
+pub(crate) fn cancel_update<C: Ticks, L: Watch, R: Read, W: Write, K: Keeps>(
+    end: Terminus,
+    line: &mut UpdateLine<C, L>,
+    reader: &mut Port<R>,
+    writer: &mut Port<W>,
+    keeper: &mut K,
+) -> Result<(Terminus, bool), SessionFault>
+    requires works { BothWork reader.old writer.old }
+    ensures works { OnOk result (BothWork reader.new writer.new) }
+{
+    let question = QuestionEnd::new(end, UpdateCommand::CancelUpdate);
+    let (end, answer) = follow(question, line, reader, writer, keeper)?;
+    let code = read(CANCEL, answer)?.code();
+    Ok((end, matches!(code, SUCCESS | NOT_IN_UPDATE_MODE)))
 }
 
 /// The answer to a question of this name, where one came and is one.

@@ -6,18 +6,18 @@ ghost use Rattle.mctpctl_input.specs.Ports.{BothWork};
 use crate::brought::Brought;
 use crate::offers::{ImageOptions, OfferFault, offers_for, version_for};
 use crate::progress::Progress;
-use crate::questions::{ask_identifiers, ask_parameters};
+use crate::questions::{ask_identifiers, ask_parameters, cancel_update};
 use crate::texts::{component_text, identity_text, request_name};
 use mctpctl_input::Port;
 use pldm_line::{Ticks, Watch};
 use pldm_requester::Openings;
 use pldm_terminus::Terminus;
-use pldm_update::AgentStage;
+use pldm_update::{ALREADY_IN_UPDATE_MODE, AgentRequest, AgentStage, DeviceIdentifiers};
 use pldm_wire::SUCCESS;
 use std::alloc::AllocError;
 use std::io::{ErrorKind, Read, Write};
 use thiserror::Error;
-use update_line::{AgentEnd, Offer, UpdateLine, UpdateLineFault, take_turn};
+use update_line::{AgentEnd, Offer, Refusal, UpdateLine, UpdateLineFault, take_turn};
 
 /// What is brought to a device.
 #[derive(Drop)]
@@ -113,7 +113,8 @@ pub(crate) fn keep_next<K: Keeps>(
 }
 
 /// Asks the device what it is and prints that, and brings it what the file offers to it; with `dry_run` it is only
-/// looked whether there is such an offer.
+/// looked whether there is such an offer. Where it has an update of this very endpoint under way, that is cancelled
+/// first, once.
 ///
 /// # Errors
 ///
@@ -137,36 +138,111 @@ pub fn bring<C: Ticks, L: Watch, R: Read, W: Write, O: Write, K: Keeps>(
     print(&identity_text(alloc, &identifiers, &parameters)?, out)?;
     let offers = match offers_for(alloc, &job.brought, &job.options, &identifiers, &parameters) {
         Ok(offers) => offers,
+        Err(OfferFault::Memory(_)) => return Err(SessionFault::Memory),
         Err(fault) => return Err(SessionFault::Offer(fault)),
     };
     if job.dry_run {
         return print("the file is for this device\n", out);
     }
-    let Some(version) = version_for(&job.brought, &job.options, &identifiers) else {
-        return Err(SessionFault::Offer(OfferFault::Version));
+    let load = Load {
+        rt,
+        job,
+        identifiers: &identifiers,
+        offers: &offers,
     };
-    let Some(agent) = AgentEnd::new(end, &offers, version, line.last.get()) else {
-        return Err(SessionFault::Offer(OfferFault::NoImage));
+    let end = match load.bring(end, line, reader, writer, out, keeper)? {
+        Ending::Activated => return Ok(()),
+        Ending::Occupied(end) => end,
     };
-    follow(rt, job, agent, &offers, line, reader, writer, out, keeper)
+    let end = end_earlier(end, line, reader, writer, keeper)?;
+    print("an earlier update cancelled\n", out)?;
+    match load.bring(end, line, reader, writer, out, keeper)? {
+        Ending::Activated => Ok(()),
+        Ending::Occupied(_) => Err(occupied()),
+    }
+}
+
+/// Ends the update that the device has under way, where it is one of this very endpoint.
+fn end_earlier<C: Ticks, L: Watch, R: Read, W: Write, K: Keeps>(
+    end: Terminus,
+    line: &mut UpdateLine<C, L>,
+    reader: &mut Port<R>,
+    writer: &mut Port<W>,
+    keeper: &mut K,
+) -> Result<Terminus, SessionFault>
+    requires works { BothWork reader.old writer.old }
+    ensures works { OnOk result (BothWork reader.new writer.new) }
+{
+    let (end, is_free) = cancel_update(end, line, reader, writer, keeper)?;
+    if is_free { Ok(end) } else { Err(occupied()) }
+}
+
+/// The device has an update under way, and keeps it.
+fn occupied() -> SessionFault {
+    SessionFault::Refused(
+        request_name(AgentRequest::RequestUpdate),
+        ALREADY_IN_UPDATE_MODE,
+    )
+}
+
+/// How a try to bring an update has ended.
+#[derive(Drop)]
+enum Ending {
+    /// The device has said that it activates the images.
+    Activated,
+    /// The device refused RequestUpdate, since it has an update under way.
+    Occupied(Terminus),
+}
+
+/// What is brought, and to which device.
+#[derive(Drop)]
+struct Load<'l> {
+    rt: &'l HostRuntime,
+    job: &'l Job<'l>,
+    identifiers: &'l DeviceIdentifiers,
+    offers: &'l [Offer<'l>],
+}
+
+impl Load<'_> {
+    /// Tries to bring it.
+    fn bring<C: Ticks, L: Watch, R: Read, W: Write, O: Write, K: Keeps>(
+        &self,
+        end: Terminus,
+        line: &mut UpdateLine<C, L>,
+        reader: &mut Port<R>,
+        writer: &mut Port<W>,
+        out: &mut O,
+        keeper: &mut K,
+    ) -> Result<Ending, SessionFault>
+        requires works { BothWork reader.old writer.old }
+        ensures works { OnOk result (BothWork reader.new writer.new) }
+    {
+        let job = self.job;
+        let Some(version) = version_for(&job.brought, &job.options, self.identifiers) else {
+            return Err(SessionFault::Offer(OfferFault::Version));
+        };
+        let Some(agent) = AgentEnd::new(end, self.offers, version, line.last.get()) else {
+            return Err(SessionFault::Offer(OfferFault::NoImage));
+        };
+        follow(self, agent, line, reader, writer, out, keeper)
+    }
 }
 
 /// Follows an agent until its update is over.
 fn follow<C: Ticks, L: Watch, R: Read, W: Write, O: Write, K: Keeps>(
-    rt: &HostRuntime,
-    job: &Job<'_>,
+    load: &Load<'_>,
     agent: AgentEnd<'_>,
-    offers: &[Offer<'_>],
     line: &mut UpdateLine<C, L>,
     reader: &mut Port<R>,
     writer: &mut Port<W>,
     out: &mut O,
     keeper: &mut K,
-) -> Result<(), SessionFault>
+) -> Result<Ending, SessionFault>
     requires works { BothWork reader.old writer.old }
+    ensures works { OnOk result (BothWork reader.new writer.new) }
 {
     let mut agent = agent;
-    let mut progress = Progress::new(rt, job.has_progress);
+    let mut progress = Progress::new(load.rt, load.job.has_progress);
     let mut stage = agent.stage();
     let mut last = stage; // before it was cancelled
     for _ in 0..u64::MAX {
@@ -180,18 +256,18 @@ fn follow<C: Ticks, L: Watch, R: Read, W: Write, O: Write, K: Keeps>(
         let next = agent.stage();
         if next != stage {
             progress.end();
-            print(&step_text(rt, stage, next, offers)?, out)?;
+            print(&step_text(load.rt, stage, next, load.offers)?, out)?;
             progress.begin(line.last.get());
         }
         if let AgentStage::Over(well) = next {
-            return over(&agent, last, well);
+            return over(agent, last, well);
         }
         stage = next;
         if stage != AgentStage::Cancelling {
             last = stage;
         }
         if let AgentStage::Serving(number) = stage {
-            let size = size_of(offers, number);
+            let size = size_of(load.offers, number);
             progress.show(line.last.get(), agent.reached, size);
         }
     }
@@ -207,16 +283,17 @@ fn size_of(offers: &[Offer<'_>], number: u16) -> u32 {
 }
 
 /// How an update has ended.
-fn over(agent: &AgentEnd<'_>, before: AgentStage, well: bool) -> Result<(), SessionFault> {
+fn over(agent: AgentEnd<'_>, before: AgentStage, well: bool) -> Result<Ending, SessionFault> {
     if well {
-        return Ok(());
+        return Ok(Ending::Activated);
     }
-    match agent.refusal {
-        Some(refusal) if refusal.code == SUCCESS => {
-            Err(SessionFault::NotTaken(request_name(refusal.request)))
-        }
-        Some(refusal) => Err(SessionFault::Refused(request_name(refusal.request), refusal.code)),
-        None => Err(SessionFault::Ended(stage_name(before))),
+    let Some(Refusal { request, code }) = agent.refusal else {
+        return Err(SessionFault::Ended(stage_name(before)));
+    };
+    match (request, code) {
+        (AgentRequest::RequestUpdate, ALREADY_IN_UPDATE_MODE) => Ok(Ending::Occupied(agent.end)),
+        (_, SUCCESS) => Err(SessionFault::NotTaken(request_name(request))),
+        _ => Err(SessionFault::Refused(request_name(request), code)),
     }
 }
 

@@ -16,7 +16,8 @@ use pldm_requester::{OpenFault, Requester, Status};
 use pldm_responder::MessageOutcome;
 use pldm_terminus::{AskFault, Terminus};
 use pldm_update::{
-    FIRMWARE_UPDATE, UpdateAnswer, UpdateCommand, update_answer_data, update_command_data,
+    COMMAND_NOT_EXPECTED, FIRMWARE_UPDATE, UpdateAnswer, UpdateCommand, update_answer_data,
+    update_command_data,
 };
 use pldm_wire::{Answer, Code, Kind, ResponseRef, read_response};
 
@@ -108,6 +109,12 @@ pub(crate) fn response_to(end: &Terminus, number: u64) -> Option<ResponseRef<'_>
         Ok(response) => Some(response),
         Err(_) => None,
     }
+}
+
+/// Refuses the request of firmware update under this handle, which comes in no update.
+pub(crate) fn refuse_update(end: &mut Terminus, handle: &CommandHandle, reply: &mut Body) -> Reply {
+    let code = Code::new(COMMAND_NOT_EXPECTED).unwrap();
+    respond(end, handle, &UpdateAnswer::Refused(code), reply)
 }
 
 /// Refuses the command under this handle, which the end does not perform.

@@ -5,7 +5,7 @@ ghost use Rattle.pldm_update.specs.AnswerReading.{update_answer_of};
 ghost use Rattle.pldm_update.specs.Commands.{number_of};
 ghost use Rattle.update_line.specs.OwnAnswers.{response_in};
 
-use crate::exchanges::{moment_at, open, refuse, refused, reply_of, response_to};
+use crate::exchanges::{moment_at, open, refuse, refuse_update, refused, reply_of, response_to};
 use crate::update_end::{Reply, Sending, UpdateEnd};
 use bus_endpoint::BusStep;
 use mctp_packet::{Body, Memory, Packets};
@@ -60,9 +60,12 @@ impl UpdateEnd for QuestionEnd {
         };
         match step {
             TerminusStep::Answering(BusStep::Pldm(MessageStep::Done(taken))) => Ok(reply_of(taken)),
-            TerminusStep::Answering(
-                BusStep::Pldm(MessageStep::Perform(handle) | MessageStep::Respond(handle)),
-            ) => Ok(refuse(&mut self.end, &handle, reply)),
+            TerminusStep::Answering(BusStep::Pldm(MessageStep::Perform(handle))) => {
+                Ok(refuse(&mut self.end, &handle, reply))
+            }
+            TerminusStep::Answering(BusStep::Pldm(MessageStep::Respond(handle))) => {
+                Ok(refuse_update(&mut self.end, &handle, reply))
+            }
             TerminusStep::Answering(BusStep::Control(packet)) => Ok(Reply::Control(packet)),
             TerminusStep::Asking(Got::Answered(number)) => {
                 self.is_over = self.is_over || self.asked == Some(number);
