@@ -46,9 +46,10 @@ pub fn serve_updates(
         Ok(file) => file,
         Err(error) => return Err(FirmwareFault::Device(error)),
     };
-    let end = firmware_end(rt.alloc(), description, table, file, agent, lifetime);
-    let Some(end) = end else {
-        return Err(FirmwareFault::Option("--agent <EID>"));
+    let end = match firmware_end(rt.alloc(), description, table, file, agent, lifetime) {
+        Ok(Some(end)) => end,
+        Ok(None) => return Err(FirmwareFault::Option("--agent <EID>")),
+        Err(_) => return Err(FirmwareFault::Line(UpdateLineFault::Memory)),
     };
     let Ok(ticks) = SystemTicks::new(rt) else {
         return Err(FirmwareFault::Line(UpdateLineFault::Clock));

@@ -4,7 +4,7 @@ use crate::control_responder::{control_responder, eid_at_first};
 use crate::settings::Settings;
 use bus_endpoint::BusEndpoint;
 use mctp_control::ControlResponder;
-use mctp_packet::{Eid, Keep, MAX_MOMENT, Moment};
+use mctp_packet::{Eid, Keep, MAX_MOMENT, Memory, Moment};
 use mctpctl_update::FirmwareFile;
 use pldm_device::{ControlTable, Description, SimDevice};
 use pldm_endpoint::Endpoint;
@@ -44,15 +44,16 @@ const HANDED_ON: PassThrough = PassThrough {
     unknown_commands: false,
 };
 
-/// An endpoint that answers so, with this control responder or with none; `None` where there is no memory.
+/// An endpoint that answers so, with this control responder or with none; `None` where the two have different endpoint
+/// IDs.
 fn answering(
     alloc: Global,
     own: Option<Eid>,
     settings: ResponderSettings,
     control: Option<ControlResponder>,
-) -> Option<BusEndpoint> {
+) -> Result<Option<BusEndpoint>, Memory> {
     let endpoint = Endpoint::new(alloc, own, settings, HANDED_ON, Bounds::UNREACHED, 1);
-    BusEndpoint::new(alloc, endpoint, control).ok()?
+    BusEndpoint::new(alloc, endpoint, control)
 }
 
 /// The end of the update agent that asks as these settings say, nothing before the moment `rest`. `None` where the times
@@ -63,7 +64,7 @@ pub fn agent_terminus(alloc: Global, settings: &Settings, rest: u64) -> Option<T
         window: Window::new(PIECE_WINDOW)?,
         busy: RestartPolicy::All,
     };
-    let answering = answering(alloc, Some(settings.own), keeping, None)?;
+    let answering = answering(alloc, Some(settings.own), keeping, None).ok()??;
     let rest = Moment::new(rest.min(MAX_MOMENT))?;
     let Settings {
         device,
@@ -93,8 +94,46 @@ fn piece_timing(lifetime: u64) -> Option<(Timing, Pace)> {
     Some((timing, pace))
 }
 
+/// What answers at a device and asks this agent, no packet of a request being later than that. `None` where the lifetime
+/// is not 1 to [`PIECE_KEEP_MS`], or the agent has the device's endpoint ID.
+fn device_terminus(
+    alloc: Global,
+    answering: BusEndpoint,
+    own: Option<Eid>,
+    agent: Eid,
+    lifetime: u64,
+) -> Option<Terminus> {
+    let (timing, pace) = piece_timing(lifetime)?;
+    let rest = Moment::new(2 * u64::from(PIECE_KEEP_MS))?;
+    let end = Terminus::with_pace(alloc, answering, agent, timing, pace, rest);
+    (own.is_none() || end.asking().is_some()).then_some(end)
+}
+
+/// The device at an end, which takes updates of this agent into a file.
+fn device_at<'r>(
+    alloc: Global,
+    end: Terminus,
+    device: SimDevice,
+    file: FirmwareFile<'r>,
+    agent: Eid,
+    uuid: &[u8],
+) -> Option<FirmwareEnd<SimDevice, FirmwareFile<'r>>> {
+    let settings = FirmwareSettings {
+        agent,
+        component: COMPONENT,
+        room: ROOM,
+    };
+    let identifiers = DeviceIdentifiers::new(UUID_DESCRIPTOR, uuid)?;
+    let version = VersionString::new(1, b"unknown")?;
+    Some(FirmwareEnd::new(alloc, end, device, file, settings, identifiers, version))
+}
+
 /// The end of a described device that takes updates of this agent into a file. `None` where the lifetime is not 1 to
-/// [`PIECE_KEEP_MS`], the agent has the device's endpoint ID, or there is no memory.
+/// [`PIECE_KEEP_MS`], or the agent has the device's endpoint ID.
+///
+/// # Errors
+///
+/// Where there is no memory.
 pub fn firmware_end<'r>(
     alloc: Global,
     description: Description,
@@ -102,7 +141,7 @@ pub fn firmware_end<'r>(
     file: FirmwareFile<'r>,
     agent: Eid,
     lifetime: u64,
-) -> Option<FirmwareEnd<SimDevice, FirmwareFile<'r>>> {
+) -> Result<Option<FirmwareEnd<SimDevice, FirmwareFile<'r>>>, Memory> {
     let Description {
         eid,
         keep,
@@ -114,19 +153,11 @@ pub fn firmware_end<'r>(
     let control = control_responder(eid, keep, table);
     let uuid = control.uuid;
     let own = eid_at_first(eid, table);
-    let answering = answering(alloc, own, keeping, Some(control))?;
-    let (timing, pace) = piece_timing(lifetime)?;
-    let rest = Moment::new(2 * u64::from(PIECE_KEEP_MS))?;
-    let end = Terminus::with_pace(alloc, answering, agent, timing, pace, rest);
-    if own.is_some() && end.asking().is_none() {
-        return None;
-    }
-    let settings = FirmwareSettings {
-        agent,
-        component: COMPONENT,
-        room: ROOM,
+    let Some(answering) = answering(alloc, own, keeping, Some(control))? else {
+        return Ok(None);
     };
-    let identifiers = DeviceIdentifiers::new(UUID_DESCRIPTOR, &uuid)?;
-    let version = VersionString::new(1, b"unknown")?;
-    Some(FirmwareEnd::new(alloc, end, device, file, settings, identifiers, version))
+    let Some(end) = device_terminus(alloc, answering, own, agent, lifetime) else {
+        return Ok(None);
+    };
+    Ok(device_at(alloc, end, device, file, agent, &uuid))
 }

@@ -398,8 +398,11 @@ asked for, at which speed, and how long the rest takes:
   component 10:1:0 applied
   activated
 
-What is transferred is the file, byte for byte, whatever is lost, repeated or late. With
---dry-run the first lines alone are printed, and whether the file is for the device.
+Where each piece that the device takes is one that was given to that very request, as on a
+line where no packet comes too late, it verifies the image, whatever is lost or repeated.
+An update of the same endpoint ID that it has under way, as after this program was killed,
+is cancelled first. With --dry-run the first lines alone are printed, and whether the file
+is for the device.
 
 Exit status:
   0  the device has said that it activates the images; with --dry-run, the file is for it
