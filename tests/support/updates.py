@@ -78,15 +78,15 @@ class UpdatedDevice:
         """What has come of a firmware; None where nothing has."""
         return read_file(f"{self.firmware}.part")
 
-    def serve(self, *words, takes_updates=True):
-        """Starts the device at its end of the line. One that takes no updates has nothing to ask: for it a read that
-        gives nothing is the line's end, so its reads wait."""
+    def serve(self, *words, takes_updates=True, **started):
+        """Starts the device at its end of the line, so `started`. One that takes no updates has nothing to ask: for it a
+        read that gives nothing is the line's end, so its reads wait."""
         end = self.line.ends[0]
         if not takes_updates:
             tty.setraw(end)
         front = [self.program, "serve", "--device", self.device]
         front += ["--firmware", self.firmware] if takes_updates else []
-        how = {"stdin": end, "stdout": end, "stderr": subprocess.DEVNULL}
+        how = {"stdin": end, "stdout": end, "stderr": subprocess.DEVNULL, **started}
         self.served = subprocess.Popen([*front, *words], **how)
         return self
 
