@@ -95,18 +95,18 @@ fn piece_timing(lifetime: u64) -> Option<(Timing, Pace)> {
 }
 
 /// What answers at a device and asks this agent, no packet of a request being later than that. `None` where the lifetime
-/// is not 1 to [`PIECE_KEEP_MS`], or the agent has the device's endpoint ID.
+/// is not 1 to [`PIECE_KEEP_MS`], or the agent has the endpoint ID of a device that has one.
 fn device_terminus(
     alloc: Global,
     answering: BusEndpoint,
-    own: Option<Eid>,
+    has_eid: bool,
     agent: Eid,
     lifetime: u64,
 ) -> Option<Terminus> {
     let (timing, pace) = piece_timing(lifetime)?;
     let rest = Moment::new(2 * u64::from(PIECE_KEEP_MS))?;
     let end = Terminus::with_pace(alloc, answering, agent, timing, pace, rest);
-    (own.is_none() || end.asking().is_some()).then_some(end)
+    (!has_eid || end.asking().is_some()).then_some(end)
 }
 
 /// The device at an end, which takes updates of this agent into a file.
@@ -153,10 +153,11 @@ pub fn firmware_end<'r>(
     let control = control_responder(eid, keep, table);
     let uuid = control.uuid;
     let own = eid_at_first(eid, table);
+    let has_eid = own.is_some();
     let Some(answering) = answering(alloc, own, keeping, Some(control))? else {
         return Ok(None);
     };
-    let Some(end) = device_terminus(alloc, answering, own, agent, lifetime) else {
+    let Some(end) = device_terminus(alloc, answering, has_eid, agent, lifetime) else {
         return Ok(None);
     };
     Ok(device_at(alloc, end, device, file, agent, &uuid))
