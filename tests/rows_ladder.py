@@ -18,7 +18,7 @@ MOST_COLUMNS = 100
 
 DEVICE = "eid = 9\nkeep_ms = 1000\n%%\n"
 
-# Runs that no example has: a schedule after DEVICE, and its output. `crates/engine_tests` has them too, but for the
+# Runs that no example has: a schedule after DEVICE, and its output. `crates/layer_tests` has them too, but for the
 # second, which was put together by hand.
 RUNS = {
     "a restart before a copy": (

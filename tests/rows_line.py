@@ -95,7 +95,7 @@ def hung_up(rows, place):
 
 def settings(rows, place):
     """On a raw terminal whose reads end, a question is answered, and one without an answer ends."""
-    for least, tenths in ((0, 1), (0, 2)):
+    for least, tenths in ((0, 0), (0, 1), (0, 2)):
         with Terminal() as terminal:
             how = termios.tcgetattr(terminal.its)
             how[6][termios.VMIN], how[6][termios.VTIME] = least, tenths
@@ -142,7 +142,7 @@ def waiting(rows, place):
             ran = place.run(*words_[1:])
         warned = f"mctpctl: warning: a device that keeps its answers for more than 2000 ms {MISTAKEN}"
         first = "mctpctl: 4 s pass first: late answers to earlier requests may still come"
-        then = f"mctpctl: waiting for an answer on {terminal.name}; a terminal has to be raw: stty -F {terminal.name} raw -echo min 0 time 1"
+        then = f"mctpctl: waiting for an answer on {terminal.name}; a terminal has to be raw: stty -F {terminal.name} raw -echo min 0 time 0"
         well = said[:3] == [warned, first, then] and then not in said[3:]
         rows.check(f"what {subcommand} waits for", well, repr(said))
         silent = all(word not in ran[2] for word in (b"warning", b"wait", b"pass"))

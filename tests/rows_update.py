@@ -257,7 +257,7 @@ def options(program):
 def hung_up(program):
     """A terminal that goes away is said on standard error, as without updates."""
     with UpdatedDevice(program, OLD) as device:
-        terminal = Terminal()
+        terminal = Terminal(tenths=1)
         words = [program, "serve", "--device", device.device, "--firmware", device.firmware]
         served = subprocess.Popen(words, stdin=terminal.its, stdout=terminal.its, stderr=subprocess.PIPE)
         os.close(terminal.its)

@@ -124,7 +124,7 @@ def on_cooked(ask, serve=None):
         served.wait()
     os.close(ours)
     os.close(its)
-    is_set = (after[3] & COOKED, after[6][termios.VMIN], after[6][termios.VTIME], after[4]) == (0, 0, 1, SPEED)
+    is_set = (after[3] & COOKED, after[6][termios.VMIN], after[6][termios.VTIME], after[4]) == (0, 0, 0, SPEED)
     return came, "set" if is_set and before[3] & COOKED == COOKED else "as it was" if after == before else repr(after)
 
 
@@ -211,7 +211,7 @@ def without_stty(rows, command, device):
         ran = call([command, "ask", "--line", terminal.name, *ASK[1:]], env=environment)
         served.terminate()
         served.wait()
-        say = f"mctpctl: the terminal was not set; type: stty -F {terminal.name} raw -echo min 0 time 1\n"
+        say = f"mctpctl: the terminal was not set; type: stty -F {terminal.name} raw -echo min 0 time 0\n"
     rows.equal("installed: without stty", (ran.returncode, ran.stdout, ran.stderr), (0, TID_IS_1, say))
 
 

@@ -60,7 +60,7 @@ class LossyLine:
 def converse(device, requester, one_in, seed, seconds=120, ticking=False):
     """Runs `device` with one end of a line as its standard input and output, and `requester` until it ends: lists of
     words, in which LINE is the name of the end that is theirs. Returns the requester's status, what it wrote, and how
-    many bytes were lost. Where it is `ticking`, a read of the requester ends after a tenth of a second."""
+    many bytes were lost. Where it is `ticking`, a read of the requester that gets nothing ends."""
     with LossyLine(one_in, seed) as line:
         if ticking:
             set_ticking(line.ends[1])

@@ -7,20 +7,21 @@ import tty
 from support.programs import SECONDS
 
 
-def set_ticking(end):
-    """Sets a terminal as the help of `ask` says: raw, and a read ends after a tenth of a second."""
+def set_ticking(end, tenths=0):
+    """Sets a terminal: raw, and a read of nothing ends at once, as the help of `ask` says, or after tenths of a second,
+    as that of `update` does."""
     tty.setraw(end)
     how = termios.tcgetattr(end)
-    how[6][termios.VMIN], how[6][termios.VTIME] = 0, 1
+    how[6][termios.VMIN], how[6][termios.VTIME] = 0, tenths
     termios.tcsetattr(end, termios.TCSANOW, how)
 
 
 class Terminal:
-    """A pseudoterminal, set as the help of `ask` says. `ask` opens it by its name; the other end is the test's."""
+    """A pseudoterminal, set by `set_ticking`. `ask` opens it by its name; the other end is the test's."""
 
-    def __init__(self):
+    def __init__(self, tenths=0):
         self.ours, self.its = os.openpty()
-        set_ticking(self.its)
+        set_ticking(self.its, tenths)
         self.name = os.ttyname(self.its)
 
     def fileno(self):

@@ -50,7 +50,7 @@ class UpdatedDevice:
         self.device = self.write("device.toml", text.encode())
         self.line = LossyLine(0, 0)
         for end in self.line.ends:
-            set_ticking(end)
+            set_ticking(end, tenths=1)
         self.served = self.agent = None
 
     def __enter__(self):

@@ -1,9 +1,8 @@
 -- Over a link each piece that a firmware device takes is one of its agent's file: of any link whose answers are, and so over
 -- a schedule.
-use Rattle.std.proofs.Common.{◌≡◌, ℕ, ◌+◌, ◌^◌, ◌<◌, ◌≤◌, Bool, true, false, List, [], ◌∷◌, ◌++◌, length, Option, Some, None, Ok, refl, sym, ap, subst, ◌∙◌, arith}
-use Rattle.std.specs.Prelude.{take, drop, replicate, if◌then◌else◌}
+use Rattle.std.proofs.Common.{◌≡◌, ℕ, ◌+◌, ◌^◌, ◌<◌, ◌≤◌, true, false, List, [], ◌∷◌, ◌++◌, length, Option, Some, None, Ok, refl, sym, ap, subst, ◌∙◌, arith}
+use Rattle.std.specs.Prelude.{if◌then◌else◌}
 use Rattle.std.proofs.lemmas.Bool.{cond-true}
-use Rattle.std.proofs.lemmas.List.{take-append-le, length-drop}
 use Rattle.pldm_requester.specs.Courses.{Answered as HasAnswered}
 use Rattle.pldm_requester.specs.Numbering.{id_of, message_with}
 use Rattle.pldm_responder.specs.Performing.{Response as Responded, answer_to, reply, reply_to, response_to}
@@ -15,17 +14,14 @@ use Rattle.pldm_wire.specs.declared.assigned.TheConstants.{SUCCESS}
 use Rattle.pldm_update.specs.declared.command.UpdateCommand.TheVariants.{RequestFirmwareData}
 use Rattle.pldm_update.specs.declared.device_stage.DeviceRequest.{DeviceRequest}
 use Rattle.pldm_update.specs.declared.device_stage.DeviceRequest.TheVariants.{Piece}
-use Rattle.pldm_update.specs.declared.device_stage.Stage.{Stage}
-use Rattle.pldm_update.specs.declared.device_stage.Stage.TheVariants.{Idle, Learning, Ready, Beginning, Fetching, Storing, Fetched, Failed, Verifying, Verified, Applying, Applied, Activating}
-use Rattle.pldm_update.specs.declared.flash.FlashAction.{FlashAction}
-use Rattle.pldm_update.specs.declared.flash.FlashAction.TheVariants.{Store, Begin, Verify, Apply, Activate, Abandon, AbandonUpdate}
 use Rattle.pldm_update.specs.Commands.{command_data}
-use Rattle.pldm_update.specs.Deeds.{Deed, Reports, size_begun}
-use Rattle.pldm_update.specs.DeviceCalls.{Call, Question, RequestUpdate, PassComponent, UpdateComponent, ActivateFirmware, CancelComponent, CancelUpdate, Opened, Answered, GaveUp, Done, Tick, Restart, added, deeds, happens, last_asked, machine, or_last, with_deed}
-use Rattle.pldm_update.specs.DeviceLaws.{IsServed, IsServedSince, VerifiedIsWhole, begins}
+use Rattle.pldm_update.specs.Deeds.{size_begun}
+use Rattle.pldm_update.specs.DeviceCalls.{Call, Question, RequestUpdate, PassComponent, UpdateComponent, ActivateFirmware, CancelComponent, CancelUpdate, Opened, Answered, GaveUp, Done, Tick, Restart, deeds, last_asked, machine, or_last}
+use Rattle.pldm_update.specs.DeviceLaws.{IsServed, IsServedSince, VerifiedIsWhole}
 use Rattle.pldm_update.specs.ImagePieces.{piece}
-use Rattle.pldm_update.specs.Machines.{Machine, piece_length, wish, wish_at}
+use Rattle.pldm_update.specs.Machines.{wish}
 use Rattle.pldm_update.proofs.DeedsInOrder.{size_where_fetching}
+use Rattle.pldm_update.proofs.OfferedOne.{piece_is, piece_wished, size_before}
 use Rattle.pldm_update.proofs.OwnPieces.{all_asked, question}
 use Rattle.mctp_schedule.specs.Actions.{Step}
 use Rattle.mctp_schedule.specs.FirstArrivals.{first}
@@ -40,49 +36,6 @@ use Rattle.mctp_schedule.proofs.UntouchedRequests.{first_more}
 use Rattle.pldm_wire.specs.Laws.{RequestReadBack, ResponseReadBack}
 use Rattle.endpoint_schedule.specs.FirmwareDevices.{AtDevice, HasAnswer, HasAsked, IsUpdate, IsUpdateStep, OnLink, UpdateStep, device_calls, link_steps, piece_ask, piece_kind}
 use Rattle.endpoint_schedule.specs.UpdatesOverSchedules.{GivesPieces, ImageOverSchedules, over_schedule}
-
--- ---- which pieces are asked for
-piece_wished : (stage : Stage) (m : Machine) (offset count : ℕ) → wish_at stage m ≡ Some (Piece offset count) → (stage ≡ Fetching) × (offset ≡ m.stored) × (count ≡ piece_length m)
-piece_wished Fetching m offset count e = (refl, cc, cc)
-piece_wished Idle m offset count e = absurd (cc)
-piece_wished Learning m offset count e = absurd (cc)
-piece_wished Ready m offset count e = absurd (cc)
-piece_wished Beginning m offset count e = absurd (cc)
-piece_wished (Storing n) m offset count e = absurd (cc)
-piece_wished Fetched m offset count e = absurd (cc)
-piece_wished Failed m offset count e = absurd (cc)
-piece_wished Verifying m offset count e = absurd (cc)
-piece_wished (Verified good) m offset count e = absurd (cc)
-piece_wished Applying m offset count e = absurd (cc)
-piece_wished (Applied well) m offset count e = absurd (cc)
-piece_wished Activating m offset count e = absurd (cc)
-
--- ---- the size of the image that is under way, before a call that begins no transfer
-deed_size : (size : ℕ) (action : Option FlashAction) (bytes : List ℕ) (past : List Deed) → size_begun (with_deed action bytes past) ≡ Some size → begins action ≡ false → size_begun past ≡ Some size
-deed_size size None bytes past e none = e
-deed_size size (Some (Begin begun)) bytes past e none = absurd (cc)
-deed_size size (Some (Store offset)) bytes past e none = e
-deed_size size (Some Verify) bytes past e none = e
-deed_size size (Some Apply) bytes past e none = e
-deed_size size (Some Activate) bytes past e none = absurd (cc)
-deed_size size (Some Abandon) bytes past e none = absurd (cc)
-deed_size size (Some AbandonUpdate) bytes past e none = absurd (cc)
-
-report_size : (size : ℕ) (b well : Bool) (past : List Deed) → size_begun (if b then Reports well ∷ past else past) ≡ Some size → size_begun past ≡ Some size
-report_size size true well past e = e
-report_size size false well past e = e
-
-size_before : (size : ℕ) (m : Machine) (call : Call) (past : List Deed) → size_begun (added m call past) ≡ Some size → begins (happens m call).action ≡ false → size_begun past ≡ Some size
-size_before size m (Answered number now code bytes) past e none = deed_size size (happens m (Answered number now code bytes)).action bytes past e none
-size_before size m (Done number well) past e none = report_size size _ well past e
-size_before size m (Restart anew) past e none = absurd (cc)
-size_before size m call past e none = deed_size size (happens m call).action [] past e none
-
--- a piece within the file has no zeros of its own
-piece_is : (file : List ℕ) (offset count : ℕ) → offset + count ≤ length file → piece file offset count ≡ take count (drop offset file)
-piece_is file offset count fits =
-    let long = length-drop offset file in
-    take-append-le count (drop offset file) (replicate count 0) (omega (arith, long, fits))
 
 -- the laws below
 pub record Lower {S : Type 0} (setting : BothEnds S) : Type 0 where

@@ -8,6 +8,7 @@ use pldm_line::AskFault;
 use std::fs::{self, File, OpenOptions, TryLockError};
 use std::io::{self, Error, ErrorKind, IsTerminal, Read};
 use std::os::unix::fs::FileTypeExt;
+use std::thread;
 use std::time::{Duration, Instant};
 
 /// The name under which a program opens its own standard input once more.
@@ -18,6 +19,15 @@ const HUNG_UP: i32 = 5;
 
 /// For how many milliseconds more than it has to the line is quiet, before that is said.
 const PATIENCE_MS: u64 = 1_000;
+
+/// How many reads of nothing in a row are each followed by a short nap.
+const SHORT_NAPS: u32 = 100;
+
+/// The length of a short nap, in milliseconds: [`pldm_line::END_READS`] of them are no end of the line.
+const SHORT_NAP_MS: u64 = 1;
+
+/// The length of each later nap, in milliseconds.
+const LONG_NAP_MS: u64 = 10;
 
 /// A line that is asked on.
 #[derive(Drop)]
@@ -57,7 +67,7 @@ impl Line<'_> {
 }
 
 /// Reads a line. Where nothing has come at all for long, it says so once, on a terminal. The reads of a terminal have to
-/// end where nothing comes, as after `stty min 0 time 1`.
+/// end where nothing comes, as after `stty min 0 time 0`, which ends them at once, or `time 1`; a nap follows.
 #[derive(Drop)]
 pub struct LineReader<'r> {
     rt: &'r HostRuntime,
@@ -67,6 +77,8 @@ pub struct LineReader<'r> {
     since: Instant,
     /// How long after it was opened that is said, where it was not said and nothing has come.
     patience: Option<Duration>,
+    /// How many reads in a row gave nothing.
+    idle: u32,
 }
 
 /// The terminal of this name, opened for reading and for writing, where no other program holds it. None is made.
@@ -117,8 +129,22 @@ impl LineReader<'_> {
         let path = self.path;
         if self.rt.stderr().is_terminal() {
             let _ = eprintln!(self.rt;
-                "mctpctl: waiting for an answer on {path}; a terminal has to be raw: stty -F {path} raw -echo min 0 time 1"
+                "mctpctl: waiting for an answer on {path}; a terminal has to be raw: stty -F {path} raw -echo min 0 time 0"
             );
+        }
+    }
+
+    /// Naps after a read of nothing: a terminal may be set so that each one ends at once. What is no terminal, or none
+    /// any more since it hung up, is read again without a pause.
+    fn nap(&mut self) {
+        let span = if self.idle < SHORT_NAPS {
+            SHORT_NAP_MS
+        } else {
+            LONG_NAP_MS
+        };
+        self.idle = self.idle.saturating_add(1);
+        if self.file.is_terminal() {
+            thread::sleep(self.rt, Duration::from_millis(span));
         }
     }
 }
@@ -129,10 +155,12 @@ impl Read for LineReader<'_> {
         match self.file.read(buf) {
             Ok(0) => {
                 self.say_waiting();
+                self.nap();
                 Ok(0)
             }
             Ok(count) => {
                 self.patience = None;
+                self.idle = 0;
                 Ok(count)
             }
             Err(error) if has_hung_up(&error) => Ok(0),
@@ -185,6 +213,7 @@ fn reader_of<'r>(
         path,
         since: Instant::now(rt)?,
         patience: Some(Duration::from_millis(wait.saturating_add(PATIENCE_MS))),
+        idle: 0,
     })
 }
 

@@ -29,7 +29,7 @@ use std::io::{self, Read, Write};
 use std::thread;
 use std::time::Duration;
 
-/// A read of a terminal ends after so many milliseconds where nothing comes.
+/// A read of a terminal ends after so many milliseconds at most where nothing comes.
 const READ_MS: u64 = 100;
 
 /// Finds the sensors and effecters of the device over a line, reads them in each period, prints their table, and
@@ -228,7 +228,12 @@ fn rest<C: Ticks, R: Read, W: Write>(
     }
     let left = due.saturating_sub(line.moment().get()).min(MAX_EVERY);
     thread::sleep(rt, Duration::from_millis(left.saturating_sub(READ_MS)));
-    listen(line, 0, reader, writer)
+    listen(line, 0, reader, writer)?;
+    let left = due.saturating_sub(line.moment().get()).min(MAX_EVERY);
+    if left < READ_MS / 2 {
+        return Ok(());
+    }
+    listen(line, left, reader, writer) // that read ended at once
 }
 
 /// Prints the table of a period: the moment, the rows, and a blank line. Rows that have changed are marked.

@@ -2,7 +2,7 @@
 
 ghost use Rattle.std.specs.Prelude.{◌≡◌, IfOk, IfErr, Some, false, map, option_and_then, option_map};
 ghost use Rattle.mctp_packet.specs.Memories.{out_of_memory};
-ghost use Rattle.clap.specs.Words.{app_of, first_of, found_of, kind_of, rows_of, rule_of, subcommand_rows_of};
+ghost use Rattle.clap.specs.Words.{app_of, first_of, found_of, kind_of, rows_of, rule_of, subcommand_rows_of, with_rule};
 ghost use Rattle.mctpctl_command_line.specs.FaultNumbers.{number_of_choose_fault};
 ghost use Rattle.mctpctl_command_line.specs.Choice.{ask_subcommand as the_ask_subcommand, asked, asking_command as the_asking_command, binding_in, binding_named, choice_in as the_choice, choice_of, command as the_command, command_words as the_command_words, device_command as the_device_command, flag as the_flag, has_globals, is_given, line_command as the_line_command, line_subcommand as the_line_subcommand, link_in, linked, paced_subcommand as the_paced_subcommand, program as the_program, question_in, questioned, serve_subcommand as the_serve_subcommand, serving_subcommand as the_serving_subcommand, served, service_in, show_subcommand as the_show_subcommand, stated_subcommand as the_stated_subcommand, update_options, update_options_in, update_subcommand as the_update_subcommand, updated_file as the_updated_file, walk_options_in, walk_options, task_named, text_command as the_text_command, text_subcommand as the_text_subcommand, text_task_in, timed_subcommand as the_timed_subcommand, value_option as the_value_option, values_given, watch_options_in, watch_options, walk_subcommand as the_walk_subcommand, walking_command as the_walking_command, watch_subcommand as the_watch_subcommand, watching_command as the_watching_command, assigning_command as the_assigning_command, bringing_subcommand as the_bringing_subcommand, explained_subcommand as the_explained_subcommand, ReportsKind, ReportsRefusal};
 
@@ -20,7 +20,7 @@ use std::alloc::{AllocError, Global};
 use thiserror::Error;
 
 /// What the program is asked to do.
-#[derive(Clone, Copy, Debug)]
+#[derive(Clone, Copy)]
 pub enum Choice<'a> {
     /// A task over a text, on standard input.
     Text(TextTask),
@@ -63,7 +63,7 @@ pub struct TextTask {
 }
 
 /// A device that is served.
-#[derive(Clone, Copy, Debug)]
+#[derive(Clone, Copy)]
 pub struct ServeOptions<'a> {
     /// The file of its description (`--device`).
     pub device: &'a str,
@@ -84,7 +84,7 @@ pub struct ServeOptions<'a> {
 }
 
 /// Who asks whom on which line, and when again: the numbers as they are spelled.
-#[derive(Clone, Copy, Debug)]
+#[derive(Clone, Copy)]
 pub struct LineOptions<'a> {
     /// The line, a terminal (`--line`); standard input and output where there is none.
     pub line: Option<&'a str>,
@@ -109,7 +109,7 @@ pub struct LineOptions<'a> {
 }
 
 /// What a device is asked.
-#[derive(Clone, Copy, Debug)]
+#[derive(Clone, Copy)]
 pub struct AskOptions<'a> {
     /// Who asks whom.
     pub link: LineOptions<'a>,
@@ -122,7 +122,7 @@ pub struct AskOptions<'a> {
 }
 
 /// A device that is asked for all that it has.
-#[derive(Clone, Copy, Debug)]
+#[derive(Clone, Copy)]
 pub struct WalkOptions<'a> {
     /// Who asks whom.
     pub link: LineOptions<'a>,
@@ -131,7 +131,7 @@ pub struct WalkOptions<'a> {
 }
 
 /// A device whose sensors and effecters are read again and again: the numbers as they are spelled.
-#[derive(Clone, Copy, Debug)]
+#[derive(Clone, Copy)]
 pub struct WatchOptions<'a> {
     /// Who asks whom.
     pub link: LineOptions<'a>,
@@ -144,7 +144,7 @@ pub struct WatchOptions<'a> {
 }
 
 /// A device that is brought a firmware update: the numbers as they are spelled.
-#[derive(Clone, Copy, Debug)]
+#[derive(Clone, Copy)]
 pub struct UpdateOptions<'a> {
     /// Who asks whom.
     pub link: LineOptions<'a>,
@@ -298,7 +298,7 @@ fn text_subcommand<'a>(alloc: Global, name: &'static str) -> Result<Command<'a>,
     ensures app { IfOk result (λ command. app_of command ≡ the_text_subcommand name.now) }
     ensures local { IfOk result (λ command. has_globals command ≡ false) }
 {
-    Command::new(alloc, name).arg(flag(alloc, "explain", EXPLAIN))
+    with_flag(alloc, Command::new(alloc, name), "explain", EXPLAIN)
 }
 
 /// The subcommand `show`, with its options.
@@ -306,9 +306,9 @@ fn show_subcommand<'a>(alloc: Global) -> Result<Command<'a>, AllocError>
     ensures app { IfOk result (λ command. app_of command ≡ the_show_subcommand) }
     ensures local { IfOk result (λ command. has_globals command ≡ false) }
 {
-    text_subcommand(alloc, "show")?
-        .arg(flag(alloc, "decode", DECODE))?
-        .arg(value_option(alloc, "binding", BINDINGS, BINDING))
+    let command = text_subcommand(alloc, "show")?;
+    let command = with_flag(alloc, command, "decode", DECODE)?;
+    with_option(alloc, command, "binding", BINDINGS, BINDING)
 }
 
 /// The subcommand `serve`, with its options.
@@ -316,10 +316,10 @@ fn serve_subcommand<'a>(alloc: Global) -> Result<Command<'a>, AllocError>
     ensures app { IfOk result (λ command. app_of command ≡ the_serve_subcommand) }
     ensures local { IfOk result (λ command. has_globals command ≡ false) }
 {
-    explained_subcommand(alloc)?
-        .arg(value_option(alloc, "firmware", "FILE", FIRMWARE))?
-        .arg(value_option(alloc, "agent", "EID", AGENT))?
-        .arg(value_option(alloc, "lifetime", "MS", PIECE_LIFETIME))
+    let command = explained_subcommand(alloc)?;
+    let command = with_option(alloc, command, "firmware", "FILE", FIRMWARE)?;
+    let command = with_option(alloc, command, "agent", "EID", AGENT)?;
+    with_option(alloc, command, "lifetime", "MS", PIECE_LIFETIME)
 }
 
 /// The subcommand `serve`, with the options of its device, its log and its faults, and `--explain`.
@@ -327,9 +327,9 @@ fn explained_subcommand<'a>(alloc: Global) -> Result<Command<'a>, AllocError>
     ensures app { IfOk result (λ command. app_of command ≡ the_explained_subcommand) }
     ensures local { IfOk result (λ command. has_globals command ≡ false) }
 {
-    serving_subcommand(alloc)?
-        .arg(value_option(alloc, "faults", "FAULTS", FAULTS))?
-        .arg(flag(alloc, "explain", EXPLAIN))
+    let command = serving_subcommand(alloc)?;
+    let command = with_option(alloc, command, "faults", "FAULTS", FAULTS)?;
+    with_flag(alloc, command, "explain", EXPLAIN)
 }
 
 /// The subcommand `serve`, with the options of its device and its log.
@@ -338,10 +338,9 @@ fn serving_subcommand<'a>(alloc: Global) -> Result<Command<'a>, AllocError>
     ensures local { IfOk result (λ command. has_globals command ≡ false) }
 {
     let device = value_option(alloc, "device", "FILE", DEVICE).required(true);
-    Command::new(alloc, "serve")
-        .arg(device)?
-        .arg(value_option(alloc, "log", "FILE", LOG))?
-        .arg(flag(alloc, "verbose", VERBOSE))
+    let command = Command::new(alloc, "serve").arg(device)?;
+    let command = with_option(alloc, command, "log", "FILE", LOG)?;
+    with_flag(alloc, command, "verbose", VERBOSE)
 }
 
 /// The subcommand `ask`, with its options.
@@ -349,10 +348,10 @@ fn ask_subcommand<'a>(alloc: Global) -> Result<Command<'a>, AllocError>
     ensures app { IfOk result (λ command. app_of command ≡ the_ask_subcommand) }
     ensures local { IfOk result (λ command. has_globals command ≡ false) }
 {
-    stated_subcommand(alloc, "ask")?
-        .arg(flag(alloc, "hex", HEX))?
-        .arg(value_option(alloc, "file", "FILE", COMMANDS))?
-        .arg(command_words(alloc))
+    let command = stated_subcommand(alloc, "ask")?;
+    let command = with_flag(alloc, command, "hex", HEX)?;
+    let command = with_option(alloc, command, "file", "FILE", COMMANDS)?;
+    command.arg(command_words(alloc))
 }
 
 /// The subcommand `walk`, with its options.
@@ -360,7 +359,8 @@ fn walk_subcommand<'a>(alloc: Global) -> Result<Command<'a>, AllocError>
     ensures app { IfOk result (λ command. app_of command ≡ the_walk_subcommand) }
     ensures local { IfOk result (λ command. has_globals command ≡ false) }
 {
-    stated_subcommand(alloc, "walk")?.arg(value_option(alloc, "records", "FILE", RECORDS))
+    let command = stated_subcommand(alloc, "walk")?;
+    with_option(alloc, command, "records", "FILE", RECORDS)
 }
 
 /// The subcommand `watch`, with its options.
@@ -368,10 +368,10 @@ fn watch_subcommand<'a>(alloc: Global) -> Result<Command<'a>, AllocError>
     ensures app { IfOk result (λ command. app_of command ≡ the_watch_subcommand) }
     ensures local { IfOk result (λ command. has_globals command ≡ false) }
 {
-    stated_subcommand(alloc, "watch")?
-        .arg(value_option(alloc, "every", "MS", EVERY))?
-        .arg(value_option(alloc, "count", "N", COUNT))?
-        .arg(value_option(alloc, "log", "FILE", READINGS))
+    let command = stated_subcommand(alloc, "watch")?;
+    let command = with_option(alloc, command, "every", "MS", EVERY)?;
+    let command = with_option(alloc, command, "count", "N", COUNT)?;
+    with_option(alloc, command, "log", "FILE", READINGS)
 }
 
 /// The subcommand `update`, with its options and its file.
@@ -387,10 +387,10 @@ fn bringing_subcommand<'a>(alloc: Global) -> Result<Command<'a>, AllocError>
     ensures app { IfOk result (λ command. app_of command ≡ the_bringing_subcommand) }
     ensures local { IfOk result (λ command. has_globals command ≡ false) }
 {
-    stated_subcommand(alloc, "update")?
-        .arg(value_option(alloc, "component", "COMPONENT", COMPONENT))?
-        .arg(value_option(alloc, "image-version", "TEXT", IMAGE_VERSION))?
-        .arg(flag(alloc, "dry-run", DRY_RUN))
+    let command = stated_subcommand(alloc, "update")?;
+    let command = with_option(alloc, command, "component", "COMPONENT", COMPONENT)?;
+    let command = with_option(alloc, command, "image-version", "TEXT", IMAGE_VERSION)?;
+    with_flag(alloc, command, "dry-run", DRY_RUN)
 }
 
 /// The file of a package or an image: the one word that is no option.
@@ -410,9 +410,9 @@ fn stated_subcommand<'a>(alloc: Global, name: &'static str) -> Result<Command<'a
     ensures app { IfOk result (λ command. app_of command ≡ the_stated_subcommand name.now) }
     ensures local { IfOk result (λ command. has_globals command ≡ false) }
 {
-    paced_subcommand(alloc, name)?
-        .arg(value_option(alloc, "state", "FILE", STATE))?
-        .arg(flag(alloc, "no-state", NO_STATE))
+    let command = paced_subcommand(alloc, name)?;
+    let command = with_option(alloc, command, "state", "FILE", STATE)?;
+    with_flag(alloc, command, "no-state", NO_STATE)
 }
 
 /// A subcommand of this name, with the options of a line, of time and of the pace.
@@ -420,9 +420,9 @@ fn paced_subcommand<'a>(alloc: Global, name: &'static str) -> Result<Command<'a>
     ensures app { IfOk result (λ command. app_of command ≡ the_paced_subcommand name.now) }
     ensures local { IfOk result (λ command. has_globals command ≡ false) }
 {
-    timed_subcommand(alloc, name)?
-        .arg(value_option(alloc, "lifetime", "MS", LIFETIME))?
-        .arg(value_option(alloc, "window", "N", WINDOW))
+    let command = timed_subcommand(alloc, name)?;
+    let command = with_option(alloc, command, "lifetime", "MS", LIFETIME)?;
+    with_option(alloc, command, "window", "N", WINDOW)
 }
 
 /// A subcommand of this name, with the options of a line and of time.
@@ -430,10 +430,10 @@ fn timed_subcommand<'a>(alloc: Global, name: &'static str) -> Result<Command<'a>
     ensures app { IfOk result (λ command. app_of command ≡ the_timed_subcommand name.now) }
     ensures local { IfOk result (λ command. has_globals command ≡ false) }
 {
-    line_subcommand(alloc, name)?
-        .arg(value_option(alloc, "keep", "MS", KEEP))?
-        .arg(value_option(alloc, "timeout", "MS", TIMEOUT))?
-        .arg(value_option(alloc, "tries", "N", TRIES))
+    let command = line_subcommand(alloc, name)?;
+    let command = with_option(alloc, command, "keep", "MS", KEEP)?;
+    let command = with_option(alloc, command, "timeout", "MS", TIMEOUT)?;
+    with_option(alloc, command, "tries", "N", TRIES)
 }
 
 /// A subcommand of this name, with the options of a line.
@@ -443,10 +443,8 @@ fn line_subcommand<'a>(alloc: Global, name: &'static str) -> Result<Command<'a>,
 {
     let own = value_option(alloc, "own", "EID", OWN).required(true);
     let device = value_option(alloc, "device", "EID", ASKED).required(true);
-    Command::new(alloc, name)
-        .arg(value_option(alloc, "line", "PATH", LINE))?
-        .arg(own)?
-        .arg(device)
+    let command = with_option(alloc, Command::new(alloc, name), "line", "PATH", LINE)?;
+    command.arg(own)?.arg(device)
 }
 
 /// The words of a command: all that are left.
@@ -460,6 +458,33 @@ fn command_words<'a>(alloc: Global) -> Arg<'a>
         .num_args(1..)
         .trailing_var_arg(true)
         .help(COMMAND)
+}
+
+/// A command with one more flag, of this name, with what help says of it.
+fn with_flag<'a>(
+    alloc: Global,
+    command: Command<'a>,
+    name: &'static str,
+    help: &'static str,
+) -> Result<Command<'a>, AllocError>
+    ensures app { IfOk result (λ more. app_of more ≡ with_rule (app_of command.entry) (the_flag name.now)) }
+    ensures local { has_globals command.entry ≡ false → IfOk result (λ more. has_globals more ≡ false) }
+{
+    command.arg(flag(alloc, name, help))
+}
+
+/// A command with one more option, of this name and with a value, with what help calls the value and says of it.
+fn with_option<'a>(
+    alloc: Global,
+    command: Command<'a>,
+    name: &'static str,
+    value: &'static str,
+    help: &'static str,
+) -> Result<Command<'a>, AllocError>
+    ensures app { IfOk result (λ more. app_of more ≡ with_rule (app_of command.entry) (the_value_option name.now)) }
+    ensures local { has_globals command.entry ≡ false → IfOk result (λ more. has_globals more ≡ false) }
+{
+    command.arg(value_option(alloc, name, value, help))
 }
 
 /// A flag of this name, with what help says of it.
@@ -483,11 +508,9 @@ fn value_option<'a>(
     ensures rule { rule_of result ≡ the_value_option name.now }
     ensures local { result.global ≡ false }
 {
-    Arg::new(alloc, name)
-        .long(name)
+    flag(alloc, name, help)
         .value_name(value)
         .action(ArgAction::Set)
-        .help(help)
 }
 
 /// The program, which requires a subcommand and has a version.

@@ -286,7 +286,7 @@ Exit status:
 pub const ASK: &str = "\
 A command is sent to the device in frames of DSP0253, again after each timeout, until an
 answer to it has come or all tries have had their time. The line is a terminal that no
-other program holds. It has to be raw, and its reads have to end after a tenth of a second:
+other program holds. It has to be raw, and its reads have to end where nothing comes:
 
   stty -F /dev/ttyS1 raw -echo min 0 time 1
   mctpctl ask --line /dev/ttyS1 --own 8 --device 9 gettid
@@ -333,7 +333,7 @@ set. The line, the endpoint IDs, the times and the state are those of 'ask'. As 
 ID is used again after twice the keeping time, 32 commands are asked in that time at most;
 --window allows more:
 
-  stty -F /dev/ttyS1 raw -echo min 0 time 1
+  stty -F /dev/ttyS1 raw -echo min 0 time 0
   mctpctl walk --line /dev/ttyS1 --own 8 --device 9
 
 Output: the answers as they come, with what was asked, and at the end a table. What was
@@ -419,7 +419,7 @@ or states. Nothing is set. The line, the endpoint IDs, the times and the state a
 'ask'. A row without an answer says so, and the next one is asked. A period lasts longer
 where 32 commands in twice the keeping time are not enough; --window allows more:
 
-  stty -F /dev/ttyS1 raw -echo min 0 time 1
+  stty -F /dev/ttyS1 raw -echo min 0 time 0
   mctpctl watch --line /dev/ttyS1 --own 8 --device 9 --every 500 --log readings.csv
 
 Output: for each period its moment, in milliseconds since the start, the table of 'walk',

@@ -15,7 +15,7 @@ use update_line::Offer;
 const FORCE: u16 = 1;
 
 /// What is known of an image that stands in no package.
-#[derive(Clone, Copy, Debug)]
+#[derive(Clone, Copy)]
 pub struct ImageOptions<'a> {
     /// The component that it is for; the device's only one, where none is named.
     pub component: Option<Component>,

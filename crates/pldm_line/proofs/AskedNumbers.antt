@@ -5,5 +5,5 @@ use Rattle.pldm_line.specs.declared.quiet.TheConstants.{END_MS, END_READS}
 end_reads : END_READS ≡ 8
 end_reads = refl
 
-end_ms : END_MS ≡ 50
+end_ms : END_MS ≡ 5
 end_ms = refl

@@ -9,7 +9,7 @@ use mctp_packet::Moment;
 pub const END_READS: u8 = 8;
 
 /// [`END_READS`] reads of 0 bytes are the end of the line where they took less than this many milliseconds.
-pub const END_MS: u64 = 50;
+pub const END_MS: u64 = 5;
 
 /// The reads of 0 bytes in a row.
 #[derive(Clone, Copy, Debug)]

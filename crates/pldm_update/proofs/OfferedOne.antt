@@ -25,7 +25,7 @@ use Rattle.pldm_update.proofs.DeedsInOrder.{size_where_fetching}
 use Rattle.pldm_update.proofs.OwnPieces.{all_asked, question}
 
 -- ---- which pieces are asked for
-piece_wished : (stage : Stage) (m : Machine) (offset count : ℕ) → wish_at stage m ≡ Some (Piece offset count) → (stage ≡ Fetching) × (offset ≡ m.stored) × (count ≡ piece_length m)
+pub piece_wished : (stage : Stage) (m : Machine) (offset count : ℕ) → wish_at stage m ≡ Some (Piece offset count) → (stage ≡ Fetching) × (offset ≡ m.stored) × (count ≡ piece_length m)
 piece_wished Fetching m offset count e = (refl, cc, cc)
 piece_wished Idle m offset count e = absurd (cc)
 piece_wished Learning m offset count e = absurd (cc)
@@ -56,14 +56,14 @@ report_size size true well past e = e
 report_size size false well past e = e
 
 -- before a call that begins no transfer it was the same
-size_before : (size : ℕ) (m : Machine) (call : devices.Call) (past : List Deed) → size_begun (added m call past) ≡ Some size → begins (happens m call).action ≡ false → size_begun past ≡ Some size
+pub size_before : (size : ℕ) (m : Machine) (call : devices.Call) (past : List Deed) → size_begun (added m call past) ≡ Some size → begins (happens m call).action ≡ false → size_begun past ≡ Some size
 size_before size m (devices.Answered number now code bytes) past e none = deed_size size (happens m (devices.Answered number now code bytes)).action bytes past e none
 size_before size m (devices.Done number well) past e none = report_size size _ well past e
 size_before size m (devices.Restart anew) past e none = absurd (cc)
 size_before size m call past e none = deed_size size (happens m call).action [] past e none
 
 -- ---- a piece within the file has no zeros of its own
-piece_is : (file : List ℕ) (offset count : ℕ) → offset + count ≤ length file → piece file offset count ≡ take count (drop offset file)
+pub piece_is : (file : List ℕ) (offset count : ℕ) → offset + count ≤ length file → piece file offset count ≡ take count (drop offset file)
 piece_is file offset count fits =
     let long = length-drop offset file in
     take-append-le count (drop offset file) (replicate count 0) (omega (arith, long, fits))

@@ -1,6 +1,6 @@
 //! What was written before a run ends is flushed, once.
 
-use crate::engines::{End, Engine, expect_flushed};
+use crate::engine::engines::{End, Engine, expect_flushed};
 use mctpctl_engines::LineKind;
 use std::io;
 use std::io::Read;

@@ -1,6 +1,6 @@
 //! Schedules are read and run with little memory at first, and with more after each refusal.
 
-use crate::runs::{RETRY, Row, TAG_USED_AGAIN, example, expect_run};
+use crate::link::runs::{RETRY, Row, TAG_USED_AGAIN, example, expect_run};
 use bumpalo::Bump;
 use mctp_schedule::{LineFaultKind, RunFault, Schedule, run};
 use std::alloc::{AllocError, Global};

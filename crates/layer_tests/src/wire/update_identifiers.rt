@@ -2,7 +2,7 @@
 //! layouts.
 
 use crate::expect::expect_eq;
-use crate::update_package::PACKAGE;
+use crate::wire::update_package::PACKAGE;
 use pldm_update::{
     DeviceIdentifiers, Package, UpdateAnswer, UpdateFault, read_update_answer, update_answer_data,
 };

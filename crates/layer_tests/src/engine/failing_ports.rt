@@ -1,7 +1,7 @@
 //! Readers and writers that fail at each of their calls in turn, and such as move one byte at a call.
 
-use crate::engines::{End, Engine, RUNS, is_front};
-use crate::fakes::{FailsAt, PieceReader, PieceWriter, TEXT_ROOM};
+use crate::engine::engines::{End, Engine, RUNS, is_front};
+use crate::engine::fakes::{FailsAt, PieceReader, PieceWriter, TEXT_ROOM};
 use mctpctl_engines::Port;
 use std::alloc::{AllocError, Global};
 use std::process::Abort;

@@ -1,6 +1,6 @@
 //! The two ends of an update, with a flash in memory, and a millisecond of one of them.
 
-use crate::update::line::Line;
+use crate::ends::update::line::Line;
 use bus_endpoint::BusEndpoint;
 use lamp_board::Dimmer;
 use mctp_packet::{Body, Eid, Keep, Moment, split};

@@ -1,6 +1,6 @@
 //! One control query: when its frame goes out, and which answer is believed.
 
-use crate::lines::{AskedOf, NOTHING, Outcome, ends, expect_end, run_line};
+use crate::client::lines::{AskedOf, NOTHING, Outcome, ends, expect_end, run_line};
 use mctp_control::{AnyQuery, Command, Query};
 use mctp_packet::Tag;
 use mctp_serial::frame;
@@ -109,7 +109,7 @@ fn a_query_on_a_line_that_fails(rt: HostRuntime) {
     expect_end(&rt, &got, Err(AskFault::Read), &[], QUERY, 2);
     let got = run(&rt, rt.alloc(), 2, &[ANSWER], &[]);
     expect_end(&rt, &got, Err(AskFault::Clock), &[], QUERY, 1);
-    let readings = [2_051, 2_052, 2_053, 2_054, 2_055, 2_056, 2_057, 2_058];
+    let readings = [2_051, 2_051, 2_052, 2_052, 2_053, 2_053, 2_054, 2_054];
     let got = run(&rt, rt.alloc(), 2, &[NOTHING; 8], &readings);
     expect_end(&rt, &got, Err(AskFault::LineEnded), &[], QUERY, 1);
 }

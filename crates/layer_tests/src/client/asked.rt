@@ -1,6 +1,6 @@
 //! One request: when its frames go out, and how it ends.
 
-use crate::lines::{AskedOf, NOTHING, Outcome, expect_end, run_line};
+use crate::client::lines::{AskedOf, NOTHING, Outcome, expect_end, run_line};
 use mctp_serial::frame;
 use pldm_line::{AskFault, Ended};
 use std::alloc::Global;
@@ -83,12 +83,12 @@ fn garbage_and_answers_to_others(rt: HostRuntime) {
 
 #[test]
 fn a_line_that_ends(rt: HostRuntime) {
-    // eight reads of nothing took 49 ms; with one that took longer the line goes on
+    // eight reads of nothing took 4 ms; with one that took longer the line goes on
     let got = run(
         &rt,
         rt.alloc(),
         &[NOTHING; 8],
-        &[2_051, 2_060, 2_061, 2_062, 2_063, 2_064, 2_065, 2_099],
+        &[2_051, 2_051, 2_052, 2_052, 2_053, 2_053, 2_054, 2_054],
     );
     expect_end(&rt, &got, Err(AskFault::LineEnded), &[], QUESTION, 1);
     let mut pieces = [NOTHING; 9];
@@ -98,7 +98,7 @@ fn a_line_that_ends(rt: HostRuntime) {
         rt.alloc(),
         &pieces,
         &[
-            2_051, 2_060, 2_061, 2_062, 2_063, 2_064, 2_065, 2_100, 2_101,
+            2_051, 2_051, 2_052, 2_052, 2_053, 2_053, 2_054, 2_055, 2_056,
         ],
     );
     expect_end(&rt, &got, Ok(Ended::Answered), MESSAGE, QUESTION, 1);

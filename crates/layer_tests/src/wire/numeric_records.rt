@@ -1,7 +1,7 @@
 //! Records of numeric sensors and numeric effecters, read and written.
 
 use crate::expect::expect_eq;
-use crate::records::both_ways;
+use crate::wire::records::both_ways;
 use pldm_pdr::{
     Conversion, EffecterRange, Entity, NumericEffecter, NumericSensor, RangeFormat, Record,
     RecordData, SensorRange, Units,

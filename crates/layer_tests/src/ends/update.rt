@@ -1,7 +1,7 @@
 //! A firmware update between two ends that answer and ask, over a line that loses, repeats and delays packets.
 
-use crate::update::ends::{agent_end, device_end, offers, pass};
-use crate::update::line::{Chance, Line};
+use crate::ends::update::ends::{agent_end, device_end, offers, pass};
+use crate::ends::update::line::{Chance, Line};
 use mctp_packet::Moment;
 use pldm_update::{AgentStage, Stage};
 use std::alloc::Global;

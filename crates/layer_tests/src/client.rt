@@ -1,12 +1,7 @@
 //! Tests of a line's requester, over a clock and ports of their own, and of the table of sensors and effecters: records
 //! and messages that were written from the standard's layouts. All over public calls.
-#![tactic(auto)]
 
-#[cfg(test)]
 mod asked;
-#[cfg(test)]
 mod lines;
-#[cfg(test)]
 mod queried;
-#[cfg(test)]
 mod table_rows;

@@ -1,6 +1,6 @@
 //! One port over a reader or a writer that fails.
 
-use crate::fakes::{FailsAt, PieceReader, PieceWriter};
+use crate::engine::fakes::{FailsAt, PieceReader, PieceWriter};
 use mctpctl_engines::Port;
 use std::io::{Read, Write};
 use std::test::Fail;

@@ -3,7 +3,7 @@
 ghost use Rattle.std.specs.Prelude.{◌≡◌, false};
 ghost use Rattle.mctpctl_input.specs.Ports.{has_failed};
 
-use crate::fakes::{PieceWriter, TEXT_ROOM};
+use crate::engine::fakes::{PieceWriter, TEXT_ROOM};
 use mctpctl_engines::{EngineFault, LineKind, Port, answer_all, run_all, show_all};
 use pldm_device::FileFault;
 use std::alloc::{AllocError, Global};

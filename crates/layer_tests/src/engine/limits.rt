@@ -1,6 +1,6 @@
 //! Readers that never end are stopped.
 
-use crate::engines::{End, Engine};
+use crate::engine::engines::{End, Engine};
 use mctpctl_engines::LineKind;
 use std::io;
 use std::io::Read;
