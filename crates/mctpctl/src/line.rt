@@ -6,7 +6,7 @@ ghost use Rattle.std.specs.Prelude.{◌≡◌};
 use crate::statuses::FAILED;
 use pldm_line::AskFault;
 use std::fs::{self, File, OpenOptions, TryLockError};
-use std::io::{self, Error, ErrorKind, IsTerminal, Read};
+use std::io::{self, Error, ErrorKind, IsTerminal, Read, Stdin};
 use std::os::unix::fs::FileTypeExt;
 use std::thread;
 use std::time::{Duration, Instant};
@@ -69,12 +69,12 @@ impl Line<'_> {
 /// Reads a line. Where nothing has come at all for long, it says so once, on a terminal. The reads of a terminal have to
 /// end where nothing comes, as after `stty min 0 time 0`, which ends them at once, or `time 1`; a nap follows.
 #[derive(Drop)]
-pub struct LineReader<'r> {
+pub struct LineReader<'r, R> {
     rt: &'r HostRuntime,
-    file: File,
+    inner: R,
     path: &'r str,
-    /// When it was opened.
-    since: Instant,
+    /// When it was opened, by a clock that can be read.
+    since: Option<Instant>,
     /// How long after it was opened that is said, where it was not said and nothing has come.
     patience: Option<Duration>,
     /// How many reads in a row gave nothing.
@@ -86,7 +86,7 @@ pub fn open_line<'r>(
     rt: &'r HostRuntime,
     path: &'r str,
     wait: u64,
-) -> io::Result<(LineReader<'r>, File)> {
+) -> io::Result<(LineReader<'r, File>, File)> {
     if !fs::metadata(rt, path)?.file_type().is_char_device() {
         return Err(no_terminal());
     }
@@ -96,30 +96,37 @@ pub fn open_line<'r>(
     }
     hold(&file)?;
     let writer = OpenOptions::new().write(true).open(rt, path)?;
-    Ok((reader_of(rt, file, path, wait)?, writer))
+    Ok((reader_of(rt, file, path, wait), writer))
 }
 
 /// Standard input, opened once more.
-pub fn open_input<'r>(rt: &'r HostRuntime, wait: u64) -> io::Result<LineReader<'r>> {
+pub fn open_input<'r>(rt: &'r HostRuntime, wait: u64) -> io::Result<LineReader<'r, File>> {
     let file = fs::open(rt, STANDARD_INPUT)?;
-    reader_of(rt, file, STANDARD_INPUT, wait)
+    Ok(reader_of(rt, file, STANDARD_INPUT, wait))
 }
 
-impl LineReader<'_> {
+/// Standard input as it was opened, where the system does not let it be opened once more: it has no `/proc`.
+pub fn plain_input<'r>(rt: &'r HostRuntime, wait: u64) -> LineReader<'r, Stdin> {
+    reader_of(rt, rt.stdin(), STANDARD_INPUT, wait)
+}
+
+impl LineReader<'_, File> {
     /// The terminal that is read, if it is one.
     pub fn probe(&self) -> Option<File> {
-        if !self.file.is_terminal() {
+        if !self.inner.is_terminal() {
             return None;
         }
-        self.file.try_clone().ok()
+        self.inner.try_clone().ok()
     }
+}
 
+impl<R: IsTerminal> LineReader<'_, R> {
     /// Says what is waited for, where nothing has come for long.
     fn say_waiting(&mut self) {
-        let Some(patience) = self.patience else {
+        let (Some(patience), Some(since)) = (self.patience, self.since) else {
             return;
         };
-        let Ok(passed) = self.since.elapsed(self.rt) else {
+        let Ok(passed) = since.elapsed(self.rt) else {
             return;
         };
         if passed < patience {
@@ -143,16 +150,16 @@ impl LineReader<'_> {
             LONG_NAP_MS
         };
         self.idle = self.idle.saturating_add(1);
-        if self.file.is_terminal() {
+        if self.inner.is_terminal() {
             thread::sleep(self.rt, Duration::from_millis(span));
         }
     }
 }
 
-impl Read for LineReader<'_> {
+impl<R: Read + IsTerminal> Read for LineReader<'_, R> {
     /// What has come; nothing where a read ended before something came, and of a line that has hung up.
     fn read(&mut self, buf: &mut [u8]) -> io::Result<usize> {
-        match self.file.read(buf) {
+        match self.inner.read(buf) {
             Ok(0) => {
                 self.say_waiting();
                 self.nap();
@@ -200,21 +207,21 @@ pub fn input_name(rt: &HostRuntime) -> Option<String> {
     String::from_str(rt.alloc(), path.as_path().to_str()?).ok()
 }
 
-/// A reader of this file.
-fn reader_of<'r>(
+/// A reader of a line over `inner`.
+fn reader_of<'r, R>(
     rt: &'r HostRuntime,
-    file: File,
+    inner: R,
     path: &'r str,
     wait: u64,
-) -> io::Result<LineReader<'r>> {
-    Ok(LineReader {
+) -> LineReader<'r, R> {
+    LineReader {
         rt,
-        file,
+        inner,
         path,
-        since: Instant::now(rt)?,
+        since: Instant::now(rt).ok(),
         patience: Some(Duration::from_millis(wait.saturating_add(PATIENCE_MS))),
         idle: 0,
-    })
+    }
 }
 
 /// Holds a terminal, where no other program does, by the lock that others take too.

@@ -13,7 +13,7 @@ use crate::assigning::assign_device;
 use crate::commands::AskedCommand;
 use crate::conversation::Conversation;
 use crate::keeper::{Keeper, WALK_QUERIES};
-use crate::line::{Line, input_name, open_input, open_line};
+use crate::line::{Line, input_name, open_input, open_line, plain_input};
 use crate::settings::{KEEP_MS, Periods, Settings, pace_option, settings_of};
 use crate::state::{LineState, begin_state};
 use crate::statuses::{FAILED, USAGE};
@@ -132,7 +132,8 @@ fn talk_on_input(rt: &HostRuntime, talk: &Talk<'_>, state: LineState, wait: u64)
         }
         Err(_) => {
             let line = Line { path, probe: None };
-            talk_over(rt, talk, state, &line, rt.stdin(), rt.stdout(), rt.stderr())
+            let reader = plain_input(rt, wait);
+            talk_over(rt, talk, state, &line, reader, rt.stdout(), rt.stderr())
         }
     }
 }

@@ -3,7 +3,7 @@
 ghost use Rattle.std.specs.Prelude.{◌≡◌, ◌≤◌};
 
 use crate::keeper::Keeper;
-use crate::line::{Line, open_input, open_line};
+use crate::line::{Line, open_input, open_line, plain_input};
 use crate::serial_line::file_failed;
 use crate::settings::{Settings, component_of};
 use crate::state::{LineState, begin_state};
@@ -123,7 +123,10 @@ fn update_on(
         let (writer, out) = (rt.stdout(), rt.stderr());
         return match open_input(rt, wait) {
             Ok(reader) => update_over(rt, settings, job, state, &line, reader, writer, out),
-            Err(_) => update_over(rt, settings, job, state, &line, rt.stdin(), writer, out),
+            Err(_) => {
+                let reader = plain_input(rt, wait);
+                update_over(rt, settings, job, state, &line, reader, writer, out)
+            }
         };
     };
     match open_line(rt, path, wait) {
