@@ -54,11 +54,11 @@ impl ReadingFault {
 ///
 /// # Example
 ///
-/// `Recorder`, a platform of the tests, is in `crates/device_tests/src/recorder.rt` and
-/// is proved with them. It keeps each terminus ID that it is given, returns the last one, or 0 before the
-/// first, and refuses any other command; its answers, the state that follows and the laws over them
-/// are in `crates/device_tests/specs/Recorders.antt`. To keep an ID takes memory, so its `STEADY` is
-/// false; and it keeps no account of the commands, so its `performed` holds of all values.
+/// `Recorder`, a platform of the tests, is in the module `recorder` of the crate `layer_tests` and is proved
+/// with it. It keeps each terminus ID that it is given, returns the last one, or 0 before the first, and refuses
+/// any other command; its answers, the state that follows and the laws over them are in that crate's
+/// `specs/Recorders.antt`. To keep an ID takes memory, so its `STEADY` is false; and it keeps no account of the
+/// commands, so its `performed` holds of all values.
 pub trait Platform: Drop {
     ghost use Rattle.std.specs.Prelude.{◌≡◌, ℕ, ℤ, Bool, false, List, [], ◌∷◌, ◌++◌, Result, IfOk, IsOk, OnOk, OnErr, IsTrue};
     ghost use Rattle.pldm_wire.specs.Commands.{kind_of, sets};

@@ -1,12 +1,12 @@
 //! An endpoint over a device that is outside, in two steps.
 
+use crate::hoard::Hoard;
 use mctp_packet::{Eid, Keep, Moment, Reason};
 use pldm_endpoint::{AnswerRefusal, CommandHandle, Endpoint, ReceiveRefusal, Step};
 use pldm_responder::{Bounds, Outcome, ResponderSettings};
 use pldm_wire::{Answer, Command, PassThrough};
 use std::alloc::Global;
 use std::process::Abort;
-use test_support::Hoard;
 
 /// What becomes of a packet at an endpoint.
 #[derive(Clone, Copy, Debug, PartialEq, Eq)]

@@ -3,12 +3,12 @@
 ghost use Rattle.std.specs.Prelude.{◌≤◌};
 ghost use Rattle.pldm_requester.specs.Slots.{held_of};
 
+use crate::hoard::Hoard;
 use mctp_packet::{Eid, Keep, Memory, Moment, Reason};
 use pldm_requester::{Due, Got, OpenFault, Requester, Status, Timing, TimingFault};
 use pldm_wire::Command;
 use std::alloc::Global;
 use std::process::Abort;
-use test_support::Hoard;
 
 mod any_type;
 mod paces;

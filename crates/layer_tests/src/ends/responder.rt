@@ -1,5 +1,7 @@
 //! A responder by itself: what it performs, which answers it keeps, and what it refuses after a restart.
 
+use crate::example_device::description;
+use crate::hoard::Hoard;
 use lamp_board::Dimmer;
 use mctp_packet::{Eid, Keep, MAX_EID, MIN_EID, Memory, Moment, Reason};
 use pldm_device::{Description, Platform, ReadingFault, SimDevice};
@@ -7,7 +9,6 @@ use pldm_responder::{Outcome, Responder};
 use pldm_wire::INSTANCE_IDS;
 use std::alloc::Global;
 use std::process::Abort;
-use test_support::{Hoard, description};
 
 mod changes;
 mod refused_growths;

@@ -4,12 +4,12 @@ ghost use Rattle.std.specs.Prelude.{◌≡◌, false};
 ghost use Rattle.mctpctl_input.specs.Ports.{has_failed};
 
 use crate::engine::fakes::{PieceWriter, TEXT_ROOM};
+use crate::example_device::input;
 use mctpctl_engines::{EngineFault, LineKind, Port, answer_all, run_all, show_all};
 use pldm_device::FileFault;
 use std::alloc::{AllocError, Global};
 use std::io::{Read, Write};
 use std::process::Abort;
-use test_support::input;
 
 /// One of the engines.
 #[derive(Clone, Copy, Debug)]

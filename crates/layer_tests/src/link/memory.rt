@@ -1,12 +1,12 @@
 //! Schedules are read and run with little memory at first, and with more after each refusal.
 
+use crate::hoard::Hoard;
 use crate::link::runs::{RETRY, Row, TAG_USED_AGAIN, example, expect_run};
 use bumpalo::Bump;
 use mctp_schedule::{LineFaultKind, RunFault, Schedule, run};
 use std::alloc::{AllocError, Global};
 use std::process::Abort;
 use std::test::Fail;
-use test_support::Hoard;
 
 /// How many bytes more a reading has after each refusal.
 const READING_STEP: usize = 16;

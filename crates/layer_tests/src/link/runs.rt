@@ -1,6 +1,7 @@
 //! Schedules of requesters and a device, and what a run of each reports. What comes of each step, and how each request
 //! ends, are rows over the program: `tests/rows_worked.py`.
 
+use crate::example_device::description;
 use bumpalo::Bump;
 use lamp_board::Lamp;
 use mctp_packet::{Eid, Keep};
@@ -11,7 +12,6 @@ use pldm_wire::Window;
 use std::alloc::{AllocError, Global};
 use std::process::Abort;
 use std::test::Fail;
-use test_support::description;
 
 /// The example device at endpoint 9, with a keeping time of a second and a window of all instance IDs.
 pub fn example(alloc: Global) -> Result<Setup<SimDevice>, Fail> {

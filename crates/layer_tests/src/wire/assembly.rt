@@ -1,13 +1,13 @@
 //! Messages assembled from packets, and packets that are dropped.
 
 use crate::expect::expect_eq;
+use crate::hoard::Hoard;
 use mctp_assembly::{Assembler, Fed, Key};
 use mctp_packet::{
     BASELINE_UNIT, Eid, HEADER, MAX_PACKET_BYTES, PacketRef, Reason, Tag, read, read_for,
 };
 use std::alloc::Global;
 use std::process::Abort;
-use test_support::Hoard;
 
 /// The endpoint that all packets here are addressed to.
 const OWN: u8 = 9;

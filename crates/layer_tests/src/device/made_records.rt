@@ -1,6 +1,6 @@
 //! Records that the table `records` has made, compared with bytes that were written by hand.
 
-use crate::descriptions::{description_of, is_refused, joined};
+use crate::device::descriptions::{description_of, is_refused, joined};
 use crate::expect::expect_eq;
 use pldm_device::FileFault;
 use std::alloc::Global;

@@ -1,6 +1,6 @@
 //! The longest record that a description may have.
 
-use crate::descriptions::{description_of, example_text, is_refused, joined};
+use crate::device::descriptions::{description_of, example_text, is_refused, joined};
 use crate::expect::expect_eq;
 use pldm_device::FileFault;
 use std::alloc::Global;

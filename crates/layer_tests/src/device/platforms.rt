@@ -1,8 +1,8 @@
 //! The simulated device of the example, and another platform, each asked through the same trait.
 
-use crate::descriptions::{description_of, example_text};
+use crate::device::descriptions::{description_of, example_text};
+use crate::device::recorder::{Recorder, reported_tid};
 use crate::expect::expect_eq;
-use crate::recorder::{Recorder, reported_tid};
 use pldm_device::{Description, Platform, ReadingFault, SimDevice};
 use pldm_wire::{Answer, Command, read_answer, read_response};
 use std::alloc::Global;

@@ -1,13 +1,13 @@
 //! A description is read with no memory at first, and with a little more after each refusal.
 
-use crate::descriptions::example_text;
+use crate::device::descriptions::example_text;
+use crate::device::platforms::expect_example;
 use crate::expect::expect_eq;
-use crate::platforms::expect_example;
+use crate::hoard::Hoard;
 use mctp_packet::Memory;
 use pldm_device::{Description, FileFault};
 use std::alloc::{AllocError, Global};
 use std::process::Abort;
-use test_support::Hoard;
 
 /// How many bytes more there are after each refusal.
 const STEP: usize = 16;

@@ -1,13 +1,13 @@
 //! Records fetched in parts.
 
+use crate::device::platforms::{answer, example};
 use crate::expect::expect_eq;
-use crate::platforms::{answer, example};
+use crate::hoard::Hoard;
 use mctp_packet::Memory;
 use pldm_device::{Fetch, FetchFault, FetchState, Platform, RECORD_HEADER};
 use pldm_wire::{Answer, Code, Command, RecordPart, TransferFlag};
 use std::alloc::{AllocError, Global};
 use std::process::Abort;
-use test_support::Hoard;
 
 /// The bytes of the example's record.
 fn record() -> [u8; 300] {

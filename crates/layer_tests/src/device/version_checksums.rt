@@ -1,6 +1,6 @@
 //! The checksum that follows the versions of a description.
 
-use crate::descriptions::{changed, description_of, in_front, is_refused};
+use crate::device::descriptions::{changed, description_of, in_front, is_refused};
 use crate::expect::expect_eq;
 use pldm_device::{FileFault, Platform};
 use pldm_wire::{Answer, Command, VersionData};

@@ -1,6 +1,6 @@
 //! Descriptions with one fault, and one at every limit.
 
-use crate::descriptions::{after, changed, description_of, example_text, is_refused};
+use crate::device::descriptions::{after, changed, description_of, example_text, is_refused};
 use crate::expect::expect_eq;
 use pldm_device::FileFault;
 use std::alloc::Global;

@@ -1,6 +1,6 @@
 //! What a description says of how its endpoint treats requests: its keys `window` and `busy`.
 
-use crate::descriptions::{changed, in_front};
+use crate::device::descriptions::{changed, in_front};
 use crate::expect::expect_eq;
 use pldm_device::{Description, FileFault};
 use pldm_wire::{PassThrough, RestartPolicy};

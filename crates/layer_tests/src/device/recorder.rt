@@ -1,7 +1,7 @@
 //! A platform of another kind than the simulated device, which may want memory.
 
 ghost use Rattle.std.specs.Prelude.{◌≡◌, false, OnOk};
-ghost use Rattle.device_tests.specs.Recorders.{recorder_after, recorder_answer, recorder_answers, recorder_reads_only, recorder_refusal, recorder_sensed};
+ghost use Rattle.layer_tests.specs.Recorders.{recorder_after, recorder_answer, recorder_answers, recorder_reads_only, recorder_refusal, recorder_sensed};
 
 use mctp_packet::Memory;
 use pldm_platform::{Platform, ReadingFault};

@@ -1,6 +1,6 @@
 //! What the table `control` of a description says.
 
-use crate::descriptions::after;
+use crate::device::descriptions::after;
 use crate::expect::expect_eq;
 use pldm_device::{ControlTable, FileFault};
 

@@ -1,10 +1,10 @@
 //! The description of the example device with other lines around it, what a description states, and why one is refused.
 
+use crate::example_device::description;
 use crate::expect::expect_eq;
 use pldm_device::{Description, FileFault};
 use std::alloc::Global;
 use std::process::Abort;
-use test_support::description;
 
 /// The description of the example device.
 pub fn example_text(rt: &impl Abort, alloc: Global) -> String {
