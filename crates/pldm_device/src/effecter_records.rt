@@ -1,7 +1,7 @@
 //! The records of effecters, made from the device and the keys of their entries.
 
 ghost use Rattle.std.specs.Prelude.{◌≡◌, ◌≤◌, length, map};
-ghost use Rattle.pldm_device.specs.EffecterRecords.{effecter_named, effecter_range, numeric_effecter_data, numeric_effecter_made, state_effecter_data, state_effecter_made};
+ghost use Rattle.pldm_device.specs.EffecterRecords.{effecter_named, effecter_range, numeric_effecter_data, numeric_effecter_made, numeric_effecter_of, state_effecter_data, state_effecter_made};
 ghost use Rattle.pldm_device.specs.FileFaults.{IsOrMemory};
 ghost use Rattle.pldm_device.specs.SensorRecords.{possible};
 ghost use Rattle.toml.specs.View.{table_view};
@@ -20,7 +20,9 @@ use crate::refusal::Refusal;
 use crate::sensor_records::{conversion_of, normal_support, number_or_zero, possible};
 use crate::{AllowedStates, NumericEffecter, StateEffecter};
 use arrayvec::ArrayVec;
-use pldm_pdr::{EffecterNames, EffecterRange, Entity, PossibleStates, RangeFormat, RecordData};
+use pldm_pdr::{
+    EffecterNames, EffecterRange, Entity, PossibleStates, RangeFormat, RecordData, Units,
+};
 use pldm_wire::{MAX_STATES, Size};
 use std::alloc::Global;
 use std::collections::BTreeMap;
@@ -60,9 +62,25 @@ fn numeric_effecter_data(
     ensures { result ≡ numeric_effecter_data id effecter.now entity has_name (table_view entry.now) }
 {
     let units = units_at(entry, at)?;
+    let normal = normal_range_at(entry, effecter.value.size(), at)?;
+    Ok(RecordData::NumericEffecter(numeric_effecter_of(
+        id, effecter, entity, has_name, units, normal,
+    )))
+}
+
+/// The record of a numeric effecter, from what its entry says.
+fn numeric_effecter_of(
+    id: u16,
+    effecter: &NumericEffecter,
+    entity: Entity,
+    has_name: bool,
+    units: Units,
+    normal: NormalRange,
+) -> pldm_pdr::NumericEffecter
+    ensures { result ≡ numeric_effecter_of id effecter.now entity has_name units normal }
+{
     let size = effecter.value.size();
-    let normal = normal_range_at(entry, size, at)?;
-    Ok(RecordData::NumericEffecter(pldm_pdr::NumericEffecter {
+    pldm_pdr::NumericEffecter {
         terminus_handle: TERMINUS_HANDLE,
         effecter_id: id,
         entity,
@@ -77,7 +95,7 @@ fn numeric_effecter_data(
         max_settable: effecter.max,
         min_settable: effecter.min,
         range: effecter_range(size, normal),
-    }))
+    }
 }
 
 /// The range of an effecter in its data size; 0 where nothing is said. No range is rated.

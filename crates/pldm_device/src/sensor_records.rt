@@ -3,7 +3,7 @@
 ghost use Rattle.std.specs.Prelude.{◌≡◌, ◌≤◌, length, map, pos};
 ghost use Rattle.pldm_device.specs.FileFaults.{IsOrMemory};
 ghost use Rattle.pldm_device.specs.RecordKeys.{number_or};
-ghost use Rattle.pldm_device.specs.SensorRecords.{bit_if, conversion_of, normal_support, numeric_sensor_data, numeric_sensor_made, possible, range_support, sensor_named, sensor_range, state_sensor_data, state_sensor_made, states_of_field, supported_thresholds};
+ghost use Rattle.pldm_device.specs.SensorRecords.{bit_if, conversion_of, normal_support, numeric_sensor_data, numeric_sensor_made, numeric_sensor_of, possible, range_support, sensor_named, sensor_range, state_sensor_data, state_sensor_made, states_of_field, supported_thresholds};
 ghost use Rattle.toml.specs.View.{table_view};
 
 use crate::NumericSensor;
@@ -22,7 +22,7 @@ use crate::size_names::limits;
 use arrayvec::ArrayVec;
 use pldm_pdr::{
     Conversion, Entity, PossibleStates, RangeFormat, RecordData, SensorNames, SensorRange,
-    StateSensor,
+    StateSensor, Units,
 };
 use pldm_wire::{MAX_STATES, SensorStateField, Size, StateFields};
 use std::alloc::Global;
@@ -66,8 +66,25 @@ fn numeric_sensor_data(
     let units = units_at(entry, at)?;
     let thresholds = thresholds_at(entry, size, at)?;
     let normal = normal_range_at(entry, size, at)?;
+    Ok(RecordData::NumericSensor(numeric_sensor_of(
+        id, size, entity, has_name, units, thresholds, normal,
+    )))
+}
+
+/// The record of a numeric sensor, from what its entry says.
+fn numeric_sensor_of(
+    id: u16,
+    size: Size,
+    entity: Entity,
+    has_name: bool,
+    units: Units,
+    thresholds: Thresholds,
+    normal: NormalRange,
+) -> pldm_pdr::NumericSensor
+    ensures { result ≡ numeric_sensor_of id size entity has_name units thresholds normal }
+{
     let (min_readable, max_readable) = limits(size);
-    Ok(RecordData::NumericSensor(pldm_pdr::NumericSensor {
+    pldm_pdr::NumericSensor {
         terminus_handle: TERMINUS_HANDLE,
         sensor_id: id,
         entity,
@@ -85,7 +102,7 @@ fn numeric_sensor_data(
         max_readable,
         min_readable,
         range: sensor_range(size, thresholds, normal),
-    }))
+    }
 }
 
 /// Numbers of the size, each the value itself but for the units' power of ten.

@@ -1,7 +1,7 @@
 //! The names of units in a description.
 
 ghost use Rattle.std.specs.Prelude.{◌≡◌};
-ghost use Rattle.pldm_device.specs.UnitNames.{unit_named};
+ghost use Rattle.pldm_device.specs.UnitNames.{rarer_unit_named, unit_named};
 
 /// The number of the unit of this name (DSP0248, "Sensor units"), where it is one that things are measured in most.
 pub(crate) fn unit_named(name: &str) -> Option<u8>
@@ -21,7 +21,16 @@ pub(crate) fn unit_named(name: &str) -> Option<u8>
         Some(8)
     } else if name == "cfm" {
         Some(18)
-    } else if name == "rpm" {
+    } else {
+        rarer_unit_named(name)
+    }
+}
+
+/// The number of one of the other units of these.
+fn rarer_unit_named(name: &str) -> Option<u8>
+    ensures { result ≡ rarer_unit_named name.now }
+{
+    if name == "rpm" {
         Some(19)
     } else if name == "hertz" {
         Some(20)
