@@ -1,5 +1,9 @@
 //! What a file brings: a firmware update package, or the image of a component.
 
+ghost use Rattle.std.specs.Prelude.{◌≡◌};
+ghost use Rattle.pldm_update.specs.PackageReading.{package_of};
+ghost use Rattle.mctpctl_update.specs.Brought.{contents_of, read_contents};
+
 use pldm_update::{Package, PackageFault};
 
 /// The bytes of a package's identifier, its first field.
@@ -19,7 +23,9 @@ pub enum Brought<'f> {
 /// # Errors
 ///
 /// The first fault of the package; `Length` also for a file without a byte.
-pub fn read_brought(file: &[u8]) -> Result<Brought<'_>, PackageFault> {
+pub fn read_brought(file: &[u8]) -> Result<Brought<'_>, PackageFault>
+    ensures { read_contents result ≡ contents_of file.now }
+{
     match package_in(file) {
         Ok(package) => Ok(Brought::Package(package)),
         Err(PackageFault::Identifier) => Ok(Brought::Image(file)),
@@ -30,7 +36,9 @@ pub fn read_brought(file: &[u8]) -> Result<Brought<'_>, PackageFault> {
     }
 }
 
-/// The package in a file. It has no clause, so that no proof computes what a package is.
-fn package_in(file: &[u8]) -> Result<Package<'_>, PackageFault> {
+/// The package in a file.
+fn package_in(file: &[u8]) -> Result<Package<'_>, PackageFault>
+    ensures { result ≡ package_of file.now }
+{
     Package::read(file)
 }

@@ -1,5 +1,11 @@
 //! What a file offers to a device.
 
+ghost use Rattle.std.specs.Prelude.{◌≡◌, ◌≤◌, ◌++◌, ◌∷◌, [], map, IfOk, IfErr, Ok, Err, OnOk};
+ghost use Rattle.mctpctl_update.specs.Brought.{contents};
+ghost use Rattle.mctpctl_update.specs.Offers.{AreOffered, IsMemory, component_for, has_component, image_offer, is_applicable, is_of, is_same, items_of, number_after, offered, offers_for, only_of, own_component, package_offer, package_offers, short_version, some_offered, offers_of, version_for};
+ghost use Rattle.std.specs.List.{find};
+ghost use Rattle.pldm_update.specs.VersionTexts.{version_text};
+
 use crate::brought::Brought;
 use mctp_packet::Memory;
 use pldm_update::{
@@ -13,6 +19,9 @@ use update_line::Offer;
 /// The option that an image is taken whatever the device has now, of a package and of UpdateComponent (DSP0267,
 /// "UpdateComponent command").
 const FORCE: u16 = 1;
+
+/// A package has no more images (DSP0267, "Component image information").
+const MAX_IMAGES: usize = 65_535;
 
 /// What is known of an image that stands in no package.
 #[derive(Clone, Copy)]
@@ -46,21 +55,25 @@ pub enum OfferFault {
     Memory(Memory),
 }
 
-impl From<AllocError> for OfferFault {
-    fn from(refused: AllocError) -> OfferFault {
-        OfferFault::Memory(refused.into())
-    }
-}
-
 /// What a file offers to a device that says this of itself: the images of a package that its first record for the device
-/// names, in their order, or the one image.
+/// names, in their order, each for the device's first component of its classification and identifier; or the one image
+/// (DSP0267, "Firmware device identification records", "Component image information").
+///
+/// # Errors
+///
+/// `NoRecord` where no record is for the device; of the images in their order the first that has no component
+/// (`NoComponent`), too long a version (`Version`) or no bytes in the file (`NoImage`, also where the record names no
+/// image). For the one image `NoComponent` or `Components`, then `Version`. `Memory` where a growth was refused.
 pub fn offers_for<'f>(
     alloc: Global,
     brought: &Brought<'f>,
     options: &ImageOptions<'_>,
     identifiers: &DeviceIdentifiers,
     parameters: &FirmwareParameters,
-) -> Result<Vec<Offer<'f>>, OfferFault> {
+) -> Result<Vec<Offer<'f>>, OfferFault>
+    ensures { AreOffered (items_of (λ offers. offers.items) result)
+        (offers_for (contents brought.now) options.now identifiers.now parameters.now) }
+{
     match brought {
         Brought::Image(image) => {
             let mut offers = Vec::new(alloc);
@@ -80,22 +93,34 @@ pub(crate) fn version_for(
     brought: &Brought<'_>,
     options: &ImageOptions<'_>,
     identifiers: &DeviceIdentifiers,
-) -> Option<VersionString> {
+) -> Option<VersionString>
+    ensures { result ≡ version_for (contents brought.now) options.now identifiers.now }
+{
     match brought {
-        Brought::Image(_) => VersionString::new(1, options.version.as_bytes()),
+        Brought::Image(_) => short_version(1, options.version.as_bytes()),
         Brought::Package(package) => {
             let record = package.record_for(identifiers)?;
             let version = record.version();
-            VersionString::new(version.string_type(), version.text())
+            short_version(version.string_type(), version.text())
         }
     }
 }
 
+/// The version of this type with these bytes, where their number fits a byte.
+fn short_version(string_type: u8, text: &[u8]) -> Option<VersionString>
+    ensures { result ≡ short_version (version_text string_type text.now) }
+{
+    VersionString::new(string_type, text)
+}
+
 /// Adds an offer.
-fn add<'f>(offers: &mut Vec<Offer<'f>>, offer: Offer<'f>) -> Result<(), OfferFault> {
+fn add<'f>(offers: &mut Vec<Offer<'f>>, offer: Offer<'f>) -> Result<(), OfferFault>
+    ensures added { OnOk result (map offered offers.new.items ≡ map offered offers.old.items ++ offered offer.entry ∷ []) }
+    ensures fault { IfErr result (λ fault. IsMemory fault) }
+{
     match offers.push(offer) {
         Ok(()) => Ok(()),
-        Err(refused) => Err(AllocError::from(refused).into()),
+        Err(refused) => Err(OfferFault::Memory(AllocError::from(refused).into())),
     }
 }
 
@@ -104,13 +129,12 @@ fn image_offer<'f>(
     image: &'f [u8],
     options: &ImageOptions<'_>,
     parameters: &FirmwareParameters,
-) -> Result<Offer<'f>, OfferFault> {
-    let component = match options.component {
-        Some(component) if has_component(parameters, component) => component,
-        Some(_) => return Err(OfferFault::NoComponent),
-        None => only_component(parameters)?,
-    };
-    let Some(version) = VersionString::new(1, options.version.as_bytes()) else {
+) -> Result<Offer<'f>, OfferFault>
+    ensures value { IfOk result (λ offer. image_offer image.now options.now parameters.now ≡ Ok (offered offer)) }
+    ensures fault { IfErr result (λ fault. image_offer image.now options.now parameters.now ≡ Err fault) }
+{
+    let component = component_for(options.component, parameters)?;
+    let Some(version) = short_version(1, options.version.as_bytes()) else {
         return Err(OfferFault::Version);
     };
     Ok(Offer {
@@ -122,18 +146,45 @@ fn image_offer<'f>(
     })
 }
 
+/// The component that an image is for: the one that was named, where the device has it; its only one, where none was.
+fn component_for(
+    named: Option<Component>,
+    parameters: &FirmwareParameters,
+) -> Result<Component, OfferFault>
+    ensures { result ≡ component_for named parameters.now }
+{
+    match named {
+        Some(component) if has_component(parameters, component) => Ok(component),
+        Some(_) => Err(OfferFault::NoComponent),
+        None => only_component(parameters),
+    }
+}
+
 /// Whether the device has this component.
-fn has_component(parameters: &FirmwareParameters, component: Component) -> bool {
+fn has_component(parameters: &FirmwareParameters, component: Component) -> bool
+    ensures { result ≡ has_component parameters.now component }
+{
     for own in parameters.components() {
-        if own.component() == component {
+        if is_same(own.component(), component) {
             return true;
         }
     }
     false
 }
 
+/// Whether both are one component.
+fn is_same(own: Component, component: Component) -> bool
+    ensures { result ≡ is_same component own }
+{
+    own.classification == component.classification
+        && own.identifier == component.identifier
+        && own.index == component.index
+}
+
 /// The device's only component.
-fn only_component(parameters: &FirmwareParameters) -> Result<Component, OfferFault> {
+fn only_component(parameters: &FirmwareParameters) -> Result<Component, OfferFault>
+    ensures { result ≡ only_of parameters.now.components }
+{
     let mut components = parameters.components();
     let Some(first) = components.next() else {
         return Err(OfferFault::NoComponent);
@@ -145,19 +196,23 @@ fn only_component(parameters: &FirmwareParameters) -> Result<Component, OfferFau
 }
 
 /// What the record of a package offers.
+#[tactic(auto, using(crate::proofs::OffersInFront::nothing_in_front, crate::proofs::OffersInFront::front_of_front))]
 fn package_offers<'f>(
     alloc: Global,
     package: &Package<'f>,
     record: &DeviceRecord<'f>,
     parameters: &FirmwareParameters,
-) -> Result<Vec<Offer<'f>>, OfferFault> {
+) -> Result<Vec<Offer<'f>>, OfferFault>
+    ensures { AreOffered (items_of (λ offers. offers.items) result)
+        (some_offered (offers_of «package».now parameters.now record.now 0 «package».now.images)) }
+{
     let mut offers = Vec::new(alloc);
-    let mut number = 0usize;
+    let mut number = 0;
     for image in package.images() {
         if is_applicable(record, number) {
             add(&mut offers, package_offer(package, &image, parameters)?)?;
         }
-        number = number.saturating_add(1);
+        number = number_after(number);
     }
     if offers.is_empty() {
         return Err(OfferFault::NoImage);
@@ -165,8 +220,22 @@ fn package_offers<'f>(
     Ok(offers)
 }
 
-/// Whether the image of this number is for the device of a record (DSP0267, "Firmware device ID records").
-fn is_applicable(record: &DeviceRecord<'_>, number: usize) -> bool {
+/// The number of the image after the one of this number.
+fn number_after(number: usize) -> usize
+    requires { number ≤ MAX_IMAGES }
+    ensures value { result ≡ number_after number }
+    ensures range { result ≤ MAX_IMAGES }
+{
+    (number + 1).min(MAX_IMAGES)
+}
+
+/// Whether the image of this number is for the devices of a record (DSP0267, "Firmware device identification records").
+fn is_applicable(record: &DeviceRecord<'_>, number: usize) -> bool
+    ensures { result ≡ is_applicable record.now number }
+{
+    if number >= MAX_IMAGES {
+        return false;
+    }
     match record.applicable().get(number / 8) {
         Some(bits) => bits >> (number % 8) & 1 == 1,
         None => false,
@@ -178,12 +247,15 @@ fn package_offer<'f>(
     package: &Package<'f>,
     image: &ImageRecord<'f>,
     parameters: &FirmwareParameters,
-) -> Result<Offer<'f>, OfferFault> {
+) -> Result<Offer<'f>, OfferFault>
+    ensures value { IfOk result (λ offer. package_offer «package».now parameters.now image.now ≡ Ok (offered offer)) }
+    ensures fault { IfErr result (λ fault. package_offer «package».now parameters.now image.now ≡ Err fault) }
+{
     let Some(component) = component_of(parameters, image) else {
         return Err(OfferFault::NoComponent);
     };
     let version = image.version();
-    let Some(version) = VersionString::new(version.string_type(), version.text()) else {
+    let Some(version) = short_version(version.string_type(), version.text()) else {
         return Err(OfferFault::Version);
     };
     let Some(bytes) = package.image(image) else {
@@ -199,7 +271,9 @@ fn package_offer<'f>(
 }
 
 /// The device's first component of the image's classification and identifier.
-fn component_of(parameters: &FirmwareParameters, image: &ImageRecord<'_>) -> Option<Component> {
+fn component_of(parameters: &FirmwareParameters, image: &ImageRecord<'_>) -> Option<Component>
+    ensures { result ≡ own_component (find (is_of image.now) parameters.now.components) }
+{
     for own in parameters.components() {
         let component = own.component();
         let is_same = component.classification == image.classification()

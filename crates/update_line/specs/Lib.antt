@@ -1,3 +1,4 @@
+pub mod AgentEnds
 pub mod FirmwareEnds
 pub mod FlashCalls
 pub mod OwnAnswers

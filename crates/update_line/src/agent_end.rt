@@ -1,8 +1,10 @@
 //! The end of an update agent.
 
-ghost use Rattle.std.specs.Prelude.{◌≡◌, IfSome, is_some, length};
+ghost use Rattle.std.specs.Prelude.{◌≡◌, IfErr, IfSome, OnOk, None, Some, is_some, length};
 ghost use Rattle.pldm_terminus.specs.Askings.{CameBefore};
 ghost use Rattle.pldm_update.specs.Agents.{wish_at};
+ghost use Rattle.pldm_update.specs.declared.command.UpdateCommand.TheVariants as Asked;
+ghost use Rattle.update_line.specs.AgentEnds.{answer_unless, command_answer, command_left, image_served, stated_size};
 
 use crate::exchanges::{moment_at, open, refuse, refused, reply_of, respond, response_to};
 use crate::offer::{Offer, again};
@@ -63,7 +65,10 @@ fn part_of(number: u16, total: usize) -> TablePart {
 }
 
 /// This answer, or the refusal.
-fn answer_or(taken: Result<(), Code>, answer: UpdateAnswer) -> UpdateAnswer {
+fn answer_or(taken: Result<(), Code>, answer: UpdateAnswer) -> UpdateAnswer
+    ensures ok { OnOk taken (result ≡ answer) }
+    ensures fault { IfErr taken (λ code. result ≡ answer_unless (Some code) answer) }
+{
     match taken {
         Ok(()) => answer,
         Err(code) => UpdateAnswer::Refused(code),
@@ -171,7 +176,9 @@ impl<'a> AgentEnd<'a> {
     }
 
     /// The image of the component that is transferred now.
-    fn image(&self) -> &'a [u8] {
+    fn image(&self) -> &'a [u8]
+        ensures { result.now ≡ image_served self.now.offers.now self.now.machine.stage }
+    {
         match self.machine.stage() {
             AgentStage::Serving(number) => match self.offers.get(usize::from(number)) {
                 Some(offer) => offer.image,
@@ -193,8 +200,17 @@ impl<'a> AgentEnd<'a> {
         respond(&mut self.end, handle, &answer, reply)
     }
 
-    /// Takes a command of the device; the answer.
-    fn take_command(&mut self, now: Moment, command: &UpdateCommand) -> UpdateAnswer {
+    /// Takes a command of the device, and returns the answer: to a request for a piece of the image that is transferred
+    /// just that piece, or the refusal of it; to what the device reports, that it was heard; to all else
+    /// ERROR_UNSUPPORTED_PLDM_CMD. `receive` gives the device these answers.
+    pub fn take_command(&mut self, now: Moment, command: &UpdateCommand) -> UpdateAnswer
+        ensures answer { result ≡ command_answer self.old.machine
+            (image_served self.old.offers.now self.old.machine.stage) command.now }
+        ensures machine { self.new.machine ≡ command_left self.old.machine
+            (image_served self.old.offers.now self.old.machine.stage) now command.now }
+        ensures end { self.new.end ≡ self.old.end }
+        ensures offers { self.new.offers ≡ self.old.offers }
+    {
         match command {
             UpdateCommand::RequestFirmwareData { offset, length } => {
                 self.fetch(now, *offset, *length)
@@ -216,7 +232,14 @@ impl<'a> AgentEnd<'a> {
     }
 
     /// Gives a piece of the image that is transferred now.
-    fn fetch(&mut self, now: Moment, offset: u32, length: u32) -> UpdateAnswer {
+    fn fetch(&mut self, now: Moment, offset: u32, length: u32) -> UpdateAnswer
+        ensures answer { result ≡ command_answer self.old.machine
+            (image_served self.old.offers.now self.old.machine.stage) (Asked.RequestFirmwareData offset length) }
+        ensures machine { self.new.machine ≡ command_left self.old.machine
+            (image_served self.old.offers.now self.old.machine.stage) now (Asked.RequestFirmwareData offset length) }
+        ensures end { self.new.end ≡ self.old.end }
+        ensures offers { self.new.offers ≡ self.old.offers }
+    {
         let image = self.image();
         let size = u32::try_from(image.len()).unwrap_or(u32::MAX);
         match self.machine.fetch(now, size, MOST_BYTES, offset, length) {
