@@ -43,7 +43,7 @@ impl Keeper {
     pub fn keep_next<C>(&mut self, rt: &HostRuntime, line: &AskingLine<C>) -> Result<(), AskFault>
         ensures { IfErr result (λ fault. fault ≡ AskFault.Write) }
     {
-        self.keep_openings(rt, &line.openings(), line.moment().get())
+        self.keep_openings(rt, &openings_of(line), line.moment().get())
     }
 
     /// Keeps these openings up to the moment `last`, and that one request more may be opened. To be called before each.
@@ -109,4 +109,9 @@ impl Keeper {
         let _ = eprintln!(rt; "mctpctl: {}: {fault}", file.name());
         Some(FAILED)
     }
+}
+
+/// When the line opened requests. It has no clause, so that no proof computes what a requester leaves.
+fn openings_of<C>(line: &AskingLine<C>) -> Openings {
+    line.openings()
 }

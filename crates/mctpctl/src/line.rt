@@ -208,12 +208,7 @@ pub fn input_name(rt: &HostRuntime) -> Option<String> {
 }
 
 /// A reader of a line over `inner`.
-fn reader_of<'r, R>(
-    rt: &'r HostRuntime,
-    inner: R,
-    path: &'r str,
-    wait: u64,
-) -> LineReader<'r, R> {
+fn reader_of<'r, R>(rt: &'r HostRuntime, inner: R, path: &'r str, wait: u64) -> LineReader<'r, R> {
     LineReader {
         rt,
         inner,

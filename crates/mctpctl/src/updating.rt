@@ -14,7 +14,7 @@ use mctpctl_command_line::{TRY_HELP, UpdateOptions};
 use mctpctl_input::Port;
 use mctpctl_update::{ImageOptions, Job, Keeps, SessionFault, bring, read_brought};
 use pldm_line::{AskFault, LaterTicks, SystemTicks, Unwatched};
-use pldm_requester::Openings;
+use pldm_requester::{Openings, Requester};
 use std::fs;
 use std::io::{self, ErrorKind, IsTerminal, Read, Write};
 use update_line::{UpdateLine, UpdateLineFault};
@@ -144,6 +144,11 @@ fn update_on(
     }
 }
 
+/// When it opened requests. It has no clause, so that no proof computes what a requester leaves.
+fn openings_of(requester: &Requester) -> Openings {
+    requester.openings()
+}
+
 /// Brings an update over a line, prints what comes of it, gives the state back, and returns the exit status.
 fn update_over<R: Read + Drop, W: Write + Drop, O: Write + Drop>(
     rt: &HostRuntime,
@@ -165,7 +170,7 @@ fn update_over<R: Read + Drop, W: Write + Drop, O: Write + Drop>(
     } = state;
     let mut keeper = keeper;
     let mut out = out;
-    let earlier = requester.as_ref().map(|requester| requester.openings());
+    let earlier = requester.as_ref().map(|requester| openings_of(requester));
     let rest = rest_of(settings, earlier, present);
     say_rest(rt, rest, present);
     let Some(end) = agent_terminus(rt.alloc(), settings, rest) else {

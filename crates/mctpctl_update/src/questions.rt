@@ -35,12 +35,16 @@ pub(crate) fn ask_identifiers<C: Ticks, L: Watch, R: Read, W: Write, K: Keeps>(
     requires works { BothWork reader.old writer.old }
     ensures works { OnOk result (BothWork reader.new writer.new) }
 {
-    let question = QuestionEnd::new(end, UpdateCommand::QueryDeviceIdentifiers);
-    let (end, answer) = follow(question, line, reader, writer, keeper)?;
-    match read(IDENTIFIERS, answer)? {
-        UpdateAnswer::QueryDeviceIdentifiers { identifiers } => Ok((end, identifiers)),
-        other => Err(refused(IDENTIFIERS, &other)),
-    }
+    let (end, answer) = ask(
+        end,
+        UpdateCommand::QueryDeviceIdentifiers,
+        line,
+        reader,
+        writer,
+        keeper,
+    )?;
+    let identifiers = identifiers_in(read(IDENTIFIERS, answer)?)?;
+    Ok((end, identifiers))
 }
 
 /// Asks which firmware the device has.
@@ -54,12 +58,16 @@ pub(crate) fn ask_parameters<C: Ticks, L: Watch, R: Read, W: Write, K: Keeps>(
     requires works { BothWork reader.old writer.old }
     ensures works { OnOk result (BothWork reader.new writer.new) }
 {
-    let question = QuestionEnd::new(end, UpdateCommand::GetFirmwareParameters);
-    let (end, answer) = follow(question, line, reader, writer, keeper)?;
-    match read(PARAMETERS, answer)? {
-        UpdateAnswer::GetFirmwareParameters { parameters } => Ok((end, parameters)),
-        other => Err(refused(PARAMETERS, &other)),
-    }
+    let (end, answer) = ask(
+        end,
+        UpdateCommand::GetFirmwareParameters,
+        line,
+        reader,
+        writer,
+        keeper,
+    )?;
+    let parameters = parameters_in(read(PARAMETERS, answer)?)?;
+    Ok((end, parameters))
 }
 
 /// Ends the update that the device has under way, and returns whether it has none then.
@@ -73,8 +81,14 @@ pub(crate) fn cancel_update<C: Ticks, L: Watch, R: Read, W: Write, K: Keeps>(
     requires works { BothWork reader.old writer.old }
     ensures works { OnOk result (BothWork reader.new writer.new) }
 {
-    let question = QuestionEnd::new(end, UpdateCommand::CancelUpdate);
-    let (end, answer) = follow(question, line, reader, writer, keeper)?;
+    let (end, answer) = ask(
+        end,
+        UpdateCommand::CancelUpdate,
+        line,
+        reader,
+        writer,
+        keeper,
+    )?;
     let code = read(CANCEL, answer)?.code();
     Ok((end, matches!(code, SUCCESS | NOT_IN_UPDATE_MODE)))
 }
@@ -91,6 +105,22 @@ fn read(
     }
 }
 
+/// What identifies the device, where the answer says that.
+fn identifiers_in(answer: UpdateAnswer) -> Result<DeviceIdentifiers, SessionFault> {
+    match answer {
+        UpdateAnswer::QueryDeviceIdentifiers { identifiers } => Ok(identifiers),
+        other => Err(refused(IDENTIFIERS, &other)),
+    }
+}
+
+/// Which firmware the device has, where the answer says that.
+fn parameters_in(answer: UpdateAnswer) -> Result<FirmwareParameters, SessionFault> {
+    match answer {
+        UpdateAnswer::GetFirmwareParameters { parameters } => Ok(parameters),
+        other => Err(refused(PARAMETERS, &other)),
+    }
+}
+
 /// Why another answer is none to a question of this name.
 fn refused(name: &'static str, answer: &UpdateAnswer) -> SessionFault {
     match answer.code() {
@@ -99,9 +129,10 @@ fn refused(name: &'static str, answer: &UpdateAnswer) -> SessionFault {
     }
 }
 
-/// Follows a question until it has ended, and returns its answer, where one came.
-fn follow<C: Ticks, L: Watch, R: Read, W: Write, K: Keeps>(
-    question: QuestionEnd,
+/// Asks a question, and returns its answer, where one came.
+fn ask<C: Ticks, L: Watch, R: Read, W: Write, K: Keeps>(
+    end: Terminus,
+    command: UpdateCommand,
     line: &mut UpdateLine<C, L>,
     reader: &mut Port<R>,
     writer: &mut Port<W>,
@@ -110,14 +141,29 @@ fn follow<C: Ticks, L: Watch, R: Read, W: Write, K: Keeps>(
     requires works { BothWork reader.old writer.old }
     ensures works { OnOk result (BothWork reader.new writer.new) }
 {
-    let mut question = question;
+    let mut question = QuestionEnd::new(end, command);
+    follow(&mut question, line, reader, writer, keeper)?;
+    let answer = question.answer();
+    Ok((question.end, answer))
+}
+
+/// Follows a question until it has ended.
+fn follow<C: Ticks, L: Watch, R: Read, W: Write, K: Keeps>(
+    question: &mut QuestionEnd,
+    line: &mut UpdateLine<C, L>,
+    reader: &mut Port<R>,
+    writer: &mut Port<W>,
+    keeper: &mut K,
+) -> Result<(), SessionFault>
+    requires works { BothWork reader.old writer.old }
+    ensures works { OnOk result (BothWork reader.new writer.new) }
+{
     for _ in 0..u64::MAX {
         if question.is_over {
-            let answer = question.answer();
-            return Ok((question.end, answer));
+            return Ok(());
         }
         keep_next(&question.end, line.last.get(), keeper)?;
-        match take_turn(&mut question, line, reader, writer) {
+        match take_turn(question, line, reader, writer) {
             Ok(()) => {}
             Err(fault) => return Err(SessionFault::Line(fault)),
         }

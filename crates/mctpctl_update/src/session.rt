@@ -10,11 +10,13 @@ use crate::questions::{ask_identifiers, ask_parameters, cancel_update};
 use crate::texts::{component_text, identity_text, request_name};
 use mctpctl_input::Port;
 use pldm_line::{Ticks, Watch};
-use pldm_requester::Openings;
+use pldm_requester::{Openings, Requester};
 use pldm_terminus::Terminus;
-use pldm_update::{ALREADY_IN_UPDATE_MODE, AgentRequest, AgentStage, DeviceIdentifiers};
+use pldm_update::{
+    ALREADY_IN_UPDATE_MODE, AgentRequest, AgentStage, DeviceIdentifiers, FirmwareParameters,
+};
 use pldm_wire::SUCCESS;
-use std::alloc::AllocError;
+use std::alloc::{AllocError, Global};
 use std::io::{ErrorKind, Read, Write};
 use thiserror::Error;
 use update_line::{AgentEnd, Offer, Refusal, UpdateLine, UpdateLineFault, take_turn};
@@ -105,11 +107,16 @@ pub(crate) fn keep_next<K: Keeps>(
     let Some(requester) = end.asking() else {
         return Ok(());
     };
-    if keeper.keep(&requester.openings(), last) {
+    if keeper.keep(&openings_of(requester), last) {
         Ok(())
     } else {
         Err(SessionFault::State)
     }
+}
+
+/// When it opened requests. It has no clause, so that no proof computes what a requester leaves.
+fn openings_of(requester: &Requester) -> Openings {
+    requester.openings()
 }
 
 /// Asks the device what it is and prints that, and brings it what the file offers to it; with `dry_run` it is only
@@ -132,33 +139,69 @@ pub fn bring<C: Ticks, L: Watch, R: Read, W: Write, O: Write, K: Keeps>(
 ) -> Result<(), SessionFault>
     requires works { BothWork reader.old writer.old }
 {
-    let alloc = rt.alloc();
-    let (end, identifiers) = ask_identifiers(end, line, reader, writer, keeper)?;
-    let (end, parameters) = ask_parameters(end, line, reader, writer, keeper)?;
-    print(&identity_text(alloc, &identifiers, &parameters)?, out)?;
-    let offers = match offers_for(alloc, &job.brought, &job.options, &identifiers, &parameters) {
-        Ok(offers) => offers,
-        Err(OfferFault::Memory(_)) => return Err(SessionFault::Memory),
-        Err(fault) => return Err(SessionFault::Offer(fault)),
-    };
+    let (end, device) = ask_device(end, line, reader, writer, keeper)?;
+    print(&device.text(rt.alloc())?, out)?;
+    let offers = offers_to(rt.alloc(), job, &device)?;
     if job.dry_run {
         return print("the file is for this device\n", out);
     }
     let load = Load {
         rt,
         job,
-        identifiers: &identifiers,
+        identifiers: &device.identifiers,
         offers: &offers,
     };
-    let end = match load.bring(end, line, reader, writer, out, keeper)? {
-        Ending::Activated => return Ok(()),
-        Ending::Occupied(end) => end,
+    load.bring_at_last(end, line, reader, writer, out, keeper)
+}
+
+/// What a device says of itself.
+#[derive(Drop)]
+struct Device {
+    identifiers: DeviceIdentifiers,
+    parameters: FirmwareParameters,
+}
+
+impl Device {
+    /// The lines that say it.
+    fn text(&self, alloc: Global) -> Result<String, AllocError> {
+        identity_text(alloc, &self.identifiers, &self.parameters)
+    }
+}
+
+/// Asks the device what it is, and which firmware it has.
+fn ask_device<C: Ticks, L: Watch, R: Read, W: Write, K: Keeps>(
+    end: Terminus,
+    line: &mut UpdateLine<C, L>,
+    reader: &mut Port<R>,
+    writer: &mut Port<W>,
+    keeper: &mut K,
+) -> Result<(Terminus, Device), SessionFault>
+    requires works { BothWork reader.old writer.old }
+    ensures works { OnOk result (BothWork reader.new writer.new) }
+{
+    let (end, identifiers) = ask_identifiers(end, line, reader, writer, keeper)?;
+    let (end, parameters) = ask_parameters(end, line, reader, writer, keeper)?;
+    let device = Device {
+        identifiers,
+        parameters,
     };
-    let end = end_earlier(end, line, reader, writer, keeper)?;
-    print("an earlier update cancelled\n", out)?;
-    match load.bring(end, line, reader, writer, out, keeper)? {
-        Ending::Activated => Ok(()),
-        Ending::Occupied(_) => Err(occupied()),
+    Ok((end, device))
+}
+
+/// What the file offers to a device.
+fn offers_to<'j>(
+    alloc: Global,
+    job: &Job<'j>,
+    device: &Device,
+) -> Result<Vec<Offer<'j>>, SessionFault> {
+    let Device {
+        identifiers,
+        parameters,
+    } = device;
+    match offers_for(alloc, &job.brought, &job.options, identifiers, parameters) {
+        Ok(offers) => Ok(offers),
+        Err(OfferFault::Memory(_)) => Err(SessionFault::Memory),
+        Err(fault) => Err(SessionFault::Offer(fault)),
     }
 }
 
@@ -204,6 +247,30 @@ struct Load<'l> {
 }
 
 impl Load<'_> {
+    /// Brings it; where the device has an update of this very endpoint under way, once that is cancelled.
+    fn bring_at_last<C: Ticks, L: Watch, R: Read, W: Write, O: Write, K: Keeps>(
+        &self,
+        end: Terminus,
+        line: &mut UpdateLine<C, L>,
+        reader: &mut Port<R>,
+        writer: &mut Port<W>,
+        out: &mut O,
+        keeper: &mut K,
+    ) -> Result<(), SessionFault>
+        requires works { BothWork reader.old writer.old }
+    {
+        let end = match self.bring(end, line, reader, writer, out, keeper)? {
+            Ending::Activated => return Ok(()),
+            Ending::Occupied(end) => end,
+        };
+        let end = end_earlier(end, line, reader, writer, keeper)?;
+        print("an earlier update cancelled\n", out)?;
+        match self.bring(end, line, reader, writer, out, keeper)? {
+            Ending::Activated => Ok(()),
+            Ending::Occupied(_) => Err(occupied()),
+        }
+    }
+
     /// Tries to bring it.
     fn bring<C: Ticks, L: Watch, R: Read, W: Write, O: Write, K: Keeps>(
         &self,
@@ -221,57 +288,105 @@ impl Load<'_> {
         let Some(version) = version_for(&job.brought, &job.options, self.identifiers) else {
             return Err(SessionFault::Offer(OfferFault::Version));
         };
-        let Some(agent) = AgentEnd::new(end, self.offers, version, line.last.get()) else {
+        let Some(mut agent) = AgentEnd::new(end, self.offers, version, line.last.get()) else {
             return Err(SessionFault::Offer(OfferFault::NoImage));
         };
-        follow(self, agent, line, reader, writer, out, keeper)
+        let (before, well) = follow(self, &mut agent, line, reader, writer, out, keeper)?;
+        over(agent, before, well)
     }
 }
 
-/// Follows an agent until its update is over.
+/// Follows an agent until its update is over: what it did before, and whether it ended well.
 fn follow<C: Ticks, L: Watch, R: Read, W: Write, O: Write, K: Keeps>(
     load: &Load<'_>,
-    agent: AgentEnd<'_>,
+    agent: &mut AgentEnd<'_>,
     line: &mut UpdateLine<C, L>,
     reader: &mut Port<R>,
     writer: &mut Port<W>,
     out: &mut O,
     keeper: &mut K,
-) -> Result<Ending, SessionFault>
+) -> Result<(AgentStage, bool), SessionFault>
     requires works { BothWork reader.old writer.old }
     ensures works { OnOk result (BothWork reader.new writer.new) }
 {
-    let mut agent = agent;
-    let mut progress = Progress::new(load.rt, load.job.has_progress);
-    let mut stage = agent.stage();
-    let mut last = stage; // before it was cancelled
+    let mut seen = Seen::new(load, agent.stage());
     for _ in 0..u64::MAX {
-        if agent.asks() {
-            keep_next(&agent.end, line.last.get(), keeper)?;
-        }
-        match take_turn(&mut agent, line, reader, writer) {
-            Ok(()) => {}
-            Err(fault) => return Err(SessionFault::Line(fault)),
-        }
-        let next = agent.stage();
-        if next != stage {
-            progress.end();
-            print(&step_text(load.rt, stage, next, load.offers)?, out)?;
-            progress.begin(line.last.get());
-        }
-        if let AgentStage::Over(well) = next {
-            return over(agent, last, well);
-        }
-        stage = next;
-        if stage != AgentStage::Cancelling {
-            last = stage;
-        }
-        if let AgentStage::Serving(number) = stage {
-            let size = size_of(load.offers, number);
-            progress.show(line.last.get(), agent.reached, size);
+        turn(agent, line, reader, writer, keeper)?;
+        if let Some(well) = seen.take(agent, line.last.get(), out)? {
+            return Ok((seen.before, well));
         }
     }
     Err(SessionFault::TooMany)
+}
+
+/// Takes a turn of the line; before it may open a request, that is kept.
+fn turn<C: Ticks, L: Watch, R: Read, W: Write, K: Keeps>(
+    agent: &mut AgentEnd<'_>,
+    line: &mut UpdateLine<C, L>,
+    reader: &mut Port<R>,
+    writer: &mut Port<W>,
+    keeper: &mut K,
+) -> Result<(), SessionFault>
+    requires works { BothWork reader.old writer.old }
+    ensures works { OnOk result (BothWork reader.new writer.new) }
+{
+    if agent.asks() {
+        keep_next(&agent.end, line.last.get(), keeper)?;
+    }
+    match take_turn(agent, line, reader, writer) {
+        Ok(()) => Ok(()),
+        Err(fault) => Err(SessionFault::Line(fault)),
+    }
+}
+
+/// What was seen of an agent, and printed.
+#[derive(Drop)]
+struct Seen<'l> {
+    load: &'l Load<'l>,
+    progress: Progress<'l>,
+    stage: AgentStage,
+    /// The stage before the update was cancelled.
+    before: AgentStage,
+}
+
+impl<'l> Seen<'l> {
+    /// An agent at this stage.
+    fn new(load: &'l Load<'l>, stage: AgentStage) -> Seen<'l> {
+        Seen {
+            load,
+            progress: Progress::new(load.rt, load.job.has_progress),
+            stage,
+            before: stage,
+        }
+    }
+
+    /// Prints what the agent has done up to this moment; where its update is over, whether it ended well.
+    fn take<O: Write>(
+        &mut self,
+        agent: &AgentEnd<'_>,
+        now: u64,
+        out: &mut O,
+    ) -> Result<Option<bool>, SessionFault> {
+        let Load { rt, offers, .. } = *self.load;
+        let stage = agent.stage();
+        if stage != self.stage {
+            self.progress.end();
+            print(&step_text(rt, self.stage, stage, offers)?, out)?;
+            self.progress.begin(now);
+        }
+        if let AgentStage::Over(well) = stage {
+            return Ok(Some(well));
+        }
+        self.stage = stage;
+        if stage != AgentStage::Cancelling {
+            self.before = stage;
+        }
+        if let AgentStage::Serving(number) = stage {
+            let size = size_of(offers, number);
+            self.progress.show(now, agent.reached, size);
+        }
+        Ok(None)
+    }
 }
 
 /// The bytes of the image of a component.
